@@ -7,6 +7,7 @@ use crate::rewritten::in_single_quotes;
 use crate::values::Values;
 use mysql_bind_core::{Failure, Request, TakenQuery};
 use mysql_binding::SurveyedQuery;
+use mysql_named_params::lowered::lowered_query;
 use mysql_named_params::places::Reading;
 use mysql_named_params::tokens::first_token;
 use mysql_portable::client::first_unportable_in_client;
@@ -70,7 +71,7 @@ pub fn add_joined(
 fn is_joined(text: &[u8], mode: bool) -> bool {
     let reading = Reading {
         no_backslash_escape: mode,
-        wide_names: false,
+        wide_names: true,
     };
     let survey = SurveyedQuery::new(text, reading, &mut []).survey;
     matches!(survey.not_alone, Some((0, _)))
@@ -207,7 +208,8 @@ fn passed(
 }
 
 // Adds a fault for each construct. Each further one is looked for behind the token at which the one
-// before it begins, as if spaces stood in the place of that token.
+// before it begins, as if spaces stood in the place of that token. Names are looked at in lower
+// case, as the query is when it is asked whether it is portable.
 fn add_constructs(
     faults: &mut Vec<Fault>,
     alloc: Global,
@@ -217,7 +219,8 @@ fn add_constructs(
     let mut places = PlacesInOrder::new(query);
     // Two bytes stand before the query, so that there is room for those that `passed` writes.
     let mut text = Vec::from_slice(alloc, b"  ")?;
-    text.extend_from_slice(query.bytes.as_slice())?;
+    let lowered = lowered_query(alloc, query.bytes.as_slice(), mode)?;
+    text.extend_from_slice(lowered.as_slice())?;
     let mut from = 0usize;
     // Each construct has a byte.
     for _ in 0..query.bytes.len() {

@@ -3,7 +3,7 @@
 use crate::matching::assignment_numbers;
 use crate::query_file::{PlaceAt, places_of};
 use mysql_bind_core::{Assignment, Failure, Portability, Request, ValueType, bound_text};
-use mysql_binding::ParsedQuery;
+use mysql_binding::WideQuery;
 use mysql_portable::portable::{Construct, Unportable};
 use mysql_values::show::Shown;
 use std::alloc::{AllocError, Global};
@@ -39,7 +39,7 @@ impl Binding<'_> {
     fn place_at(&self, alloc: Global, at: usize) -> Result<Option<PlaceAt>, AllocError> {
         let mode = self.request.literals.no_backslash_escape();
         let numbers = assignment_numbers(alloc, self.assignments)?;
-        let parsed = ParsedQuery::parse_in(alloc, self.query, mode)?;
+        let parsed = WideQuery::parse_in(alloc, self.query, mode)?;
         let mut before = 0usize;
         let mut written = 0usize;
         for place in places_of(alloc, &parsed)? {

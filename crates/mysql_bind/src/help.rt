@@ -14,8 +14,8 @@ Commands:
 
 QUERY is a file. Without QUERY, or if it is -, it is standard input.
 
-Values (bind, rows). NAME[:TYPE] is a name of the query without its colon, of a
-to z, 0 to 9 and _; TYPE is text unless given:
+Values (bind, rows). NAME[:TYPE] is a name of the query without its colon, of A
+to Z, a to z, 0 to 9 and _; TYPE is text unless given:
       --set NAME[:TYPE]=VALUE    VALUE itself. Others see it in `ps`
       --file NAME[:TYPE]=PATH    the whole of a file
       --env NAME[:TYPE][=VAR]    the variable VAR (without =VAR, one named NAME)

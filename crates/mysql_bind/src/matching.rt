@@ -108,14 +108,14 @@ pub fn name_places(alloc: Global, query: &TakenQuery<'_>) -> Result<Vec<NamePlac
 
 // Whether a byte is one of those that names are of.
 fn is_of_names(byte: u8) -> bool {
-    byte.is_ascii_lowercase() || byte.is_ascii_digit() || byte == b'_'
+    byte.is_ascii_alphanumeric() || byte == b'_'
 }
 
-// What is said further of a name after which a letter stands that no name has.
+// What is said further of a name after which a byte stands that may be of a letter no name has.
 fn alphabet_hint(text: &[u8], place: &NamePlace) -> &'static str {
     match text.get(place.at.saturating_add(1).saturating_add(place.name.len())) {
-        Some(byte) if byte.is_ascii_uppercase() || !byte.is_ascii() =>
-            ", which ends there (names are of a to z, 0 to 9 and _)",
+        Some(byte) if !byte.is_ascii() =>
+            ", which ends there (names are of A to Z, a to z, 0 to 9 and _)",
         _ => "",
     }
 }
@@ -158,7 +158,7 @@ pub fn add_unused(
             let hint = if name.iter().all(|byte| is_of_names(*byte)) {
                 ""
             } else {
-                ", since names are of a to z, 0 to 9 and _"
+                ", since names are of A to Z, a to z, 0 to 9 and _"
             };
             let what = format!(in alloc;
                 "{origin}: {} has no such name{hint} (--allow-unused takes it)",

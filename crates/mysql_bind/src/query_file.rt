@@ -4,7 +4,7 @@ use crate::complaint::{Complaint, Place, one_fault};
 use crate::sources::{Sources, shown_path};
 use crate::values::{Values, wrong_values};
 use mysql_bind_core::{Failure, Request, line_and_column};
-use mysql_binding::{BindError, ParsedQuery};
+use mysql_binding::{BindError, WideQuery};
 use mysql_fragments::{FragmentsError, SteadyFragmentsError};
 use mysql_named_params::places::PlaceKind;
 use mysql_steady_text::SteadyTextError;
@@ -110,7 +110,7 @@ pub struct PlaceAt {
 }
 
 /// The places of a query, in their order.
-pub fn places_of(alloc: Global, query: &ParsedQuery<'_>) -> Result<Vec<PlaceAt>, AllocError> {
+pub fn places_of(alloc: Global, query: &WideQuery<'_>) -> Result<Vec<PlaceAt>, AllocError> {
     let mut places = Vec::new(alloc);
     let mut end = 0usize;
     for found in query.surveyed().known {
@@ -124,7 +124,7 @@ pub fn places_of(alloc: Global, query: &ParsedQuery<'_>) -> Result<Vec<PlaceAt>,
 
 /// The index of each mark of the query.
 pub fn marks_of(alloc: Global, text: &[u8], mode: bool) -> Result<Vec<usize>, AllocError> {
-    let parsed = ParsedQuery::parse_in(alloc, text, mode)?;
+    let parsed = WideQuery::parse_in(alloc, text, mode)?;
     let mut marks = Vec::new(alloc);
     for place in places_of(alloc, &parsed)? {
         if place.kind == PlaceKind::Mark {
@@ -176,7 +176,8 @@ fn steady_refused(
 
 /// What is said of a name that doesn't stand alone.
 pub static JOINED: &str =
-    "this name joins what stands beside it: write a space or a comma between them";
+    "this name joins what stands beside it: write a space or a comma between them (and in a label \
+     a space after its colon)";
 
 // What is said if values can't be bound.
 fn binding_refused(
@@ -238,7 +239,7 @@ fn steady_fragments_refused(
 
 // The index of the place of this number in a steady query.
 fn place_index(alloc: Global, text: &[u8], number: usize) -> Result<usize, AllocError> {
-    let parsed = ParsedQuery::parse_in(alloc, text, false)?;
+    let parsed = WideQuery::parse_in(alloc, text, false)?;
     match places_of(alloc, &parsed)?.get(number) {
         Some(place) => Ok(place.at),
         None => Ok(text.len()),

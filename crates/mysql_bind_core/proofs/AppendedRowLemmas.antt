@@ -3,13 +3,12 @@ use Rattle.std.specs.Prelude.{Bool, true, false, Result, Ok, Err, IfOk, OnOk, On
 use Rattle.std.proofs.Common.{◌≡◌, ◌++◌, ℕ, List, refl, sym, ap, ◌∙◌, subst, arith}
 use Rattle.mysql_values.specs.declared.value.Value.{Value}
 use Rattle.mysql_values.specs.Literal.{literal_of}
-use Rattle.mysql_named_params.specs.Tokens.{OnTokens}
-use Rattle.mysql_named_params.proofs.TokenListLemmas.{one_token_list}
-use Rattle.mysql_named_params.specs.Reading.{grammar_reading}
+use Rattle.mysql_named_params.specs.LoweredNames.{lower_names}
+use Rattle.mysql_named_params.specs.Reading.{IsTokensIn, OnWideTokens, wide_reading}
 use Rattle.mysql_named_params.specs.declared.places.Reading.{Reading}
+use Rattle.mysql_named_params.proofs.ReadingLemmas.{one_reading}
 use Rattle.mysql_portable.specs.Steady.{IsSteady}
 use Rattle.mysql_portable.specs.FirstUnportableInClient.{IsPortableInClient}
-use Rattle.mysql_portable.proofs.SteadyLemmas.{steady_other}
 use Rattle.mysql_params_core.specs.Given.{Given}
 use Rattle.mysql_binding.specs.AppendedText.{AreFound, IsAppended}
 use Rattle.mysql_binding.specs.FirstCause.{mixed_cause}
@@ -20,7 +19,7 @@ use Rattle.mysql_binding.proofs.CauseLemmas.{mixed_none}
 use Rattle.mysql_steady_text.specs.SteadyLiteral.{steady_literal_of}
 use Rattle.mysql_steady_text.specs.SteadyLiterals.{IsSteadyFor}
 use Rattle.mysql_steady_text.specs.SteadyText.{IsSteadyText}
-use Rattle.mysql_steady_text.proofs.SteadyTextLemmas.{is_anywhere_text, is_steady_text}
+use Rattle.mysql_steady_text.proofs.WideSteadyLemmas.{is_steady_text_in, is_wide_anywhere_text, wide_other}
 use Rattle.mysql_bind_core.specs.Assignments.{given_of}
 use Rattle.mysql_bind_core.specs.Bound.{IsTaken, IsTextFor}
 use Rattle.mysql_bind_core.specs.FoundPairs.{IsTextAppended}
@@ -66,36 +65,39 @@ done_so (Err e) P Q f h = tt
 module _ (request : Request) (query : List ℕ) (given : Given) (text : List ℕ) where
   -- with literals of a mode
   pub plain_for : (mode : Bool) → request.literals ≡ Plain mode →
-      OnTokens mode query (λ ts. IsGivenText (literal_of mode) (IsPlainLiteral mode) ts given text) →
-      OnTokens (mode_of request.literals) query (λ ts. IsTextFor request.literals request.portability query ts given text)
+      OnWideTokens mode query (λ ts. IsGivenText (literal_of mode) (IsPlainLiteral mode) ts given text) →
+      OnWideTokens (mode_of request.literals) query (λ ts. IsTextFor request.literals request.portability ts given text)
   plain_for mode e o =
-      subst (λ l. OnTokens (mode_of l) query (λ ts. IsTextFor l request.portability query ts given text)) (sym e)
-      (o.0, o.1, is_bound_text (grammar_reading mode) query o.0 given text o.1 o.2)
+      subst (λ l. OnWideTokens (mode_of l) query (λ ts. IsTextFor l request.portability ts given text)) (sym e)
+      (o.0, o.1, is_bound_text (wide_reading mode) query o.0 given text o.1 o.2)
 
   -- with steady literals
   pub steady_for : IsTaken request query → request.literals ≡ Steady →
-      OnTokens false query (λ ts. IsGivenText steady_literal_of IsSteadyFor ts given text) →
-      OnTokens (mode_of request.literals) query (λ ts. IsTextFor request.literals request.portability query ts given text)
+      OnWideTokens false query (λ ts. IsGivenText steady_literal_of IsSteadyFor ts given text) →
+      OnWideTokens (mode_of request.literals) query (λ ts. IsTextFor request.literals request.portability ts given text)
   steady_for taken e o =
-      subst (λ l. OnTokens (mode_of l) query (λ ts. IsTextFor l request.portability query ts given text)) (sym e) (go request.portability refl)
+      subst (λ l. OnWideTokens (mode_of l) query (λ ts. IsTextFor l request.portability ts given text)) (sym e) (go request.portability refl)
     where
       steady : IsSteady query
       steady = taken.steady e
 
-      one : IsSteadyText o.0 given text
-      one = is_steady_text query o.0 given text (steady_other false true query o.0 steady o.1) steady o.2
+      is_true : IsTokensIn (wide_reading true) query o.0
+      is_true = wide_other false true query o.0 steady o.1
 
-      go : (p : Portability) → request.portability ≡ p → OnTokens false query (λ ts. IsTextFor Steady p query ts given text)
+      one : IsSteadyText o.0 given text
+      one = is_steady_text_in (wide_reading true) query o.0 given text is_true steady o.2
+
+      go : (p : Portability) → request.portability ≡ p → OnWideTokens false query (λ ts. IsTextFor Steady p ts given text)
       go Any is = (o.0, o.1, one)
       go Portable is =
-          let p = subst (λ l. OnTokens (mode_of l) query IsPortableInClient) e (taken.portable is) in
-          let portable : IsPortableInClient o.0 = subst IsPortableInClient (one_token_list false query p.0 o.0 p.1 o.1) p.2 in
-          (o.0, o.1, is_anywhere_text query o.0 given text (steady_other false true query o.0 steady o.1) steady portable.portable one)
+          let p = subst (λ l. OnWideTokens (mode_of l) query (λ ts. IsPortableInClient (lower_names ts))) e (taken.portable is) in
+          let portable : IsPortableInClient (lower_names o.0) = subst (λ ts. IsPortableInClient (lower_names ts)) (one_reading (wide_reading false) query p.0 o.0 p.1 o.1) p.2 in
+          (o.0, o.1, is_wide_anywhere_text query o.0 given text is_true steady portable.portable one)
 
 -- a text that is appended to a query as it is surveyed is appended to the query in its mode
 pub appended_as : (literal : Literals) (IsKnown : LiteralFacts) (reading : Reading) (mode : Bool) (seen query : List ℕ) (values : List Value) (before after : List ℕ) →
-    reading ≡ grammar_reading mode → seen ≡ query → IsAppended literal IsKnown reading seen values before after →
-    IsAppended literal IsKnown (grammar_reading mode) query values before after
+    reading ≡ wide_reading mode → seen ≡ query → IsAppended literal IsKnown reading seen values before after →
+    IsAppended literal IsKnown (wide_reading mode) query values before after
 appended_as literal IsKnown reading mode seen query values before after r q a =
     subst (λ (x : Reading). IsAppended literal IsKnown x query values before after) r
     (subst (λ (x : List ℕ). IsAppended literal IsKnown reading x values before after) q a)
@@ -103,38 +105,38 @@ appended_as literal IsKnown reading mode seen query values before after r q a =
 module _ (request : Request) (query : List ℕ) (values : List Value) (before after : List ℕ) where
   -- after these bytes stands the text that is asked for, whatever gives these values
   abbrev pub AppendedFor : Bool → Type 0
-  AppendedFor mode = (text : List ℕ) × (after ≡ before ++ text) × ((given : Given) → OnTokens mode query (AreFound given values) →
-      OnTokens (mode_of request.literals) query (λ ts. IsTextFor request.literals request.portability query ts given text))
+  AppendedFor mode = (text : List ℕ) × (after ≡ before ++ text) × ((given : Given) → OnWideTokens mode query (AreFound given values) →
+      OnWideTokens (mode_of request.literals) query (λ ts. IsTextFor request.literals request.portability ts given text))
 
   pub plain_appended : (mode plain : Bool) → request.literals ≡ Plain plain → mode ≡ mode_of request.literals →
-      IsAppended (literal_of plain) (IsPlainLiteral plain) (grammar_reading mode) query values before after → AppendedFor mode
+      IsAppended (literal_of plain) (IsPlainLiteral plain) (wide_reading mode) query values before after → AppendedFor mode
   plain_appended mode plain e m a =
       let same : mode ≡ plain = m ∙ ap mode_of e in (
         a.text,
         a.bytes,
         λ given o. plain_for request query given a.text plain e
-            (subst (λ b. OnTokens b query (λ ts. IsGivenText (literal_of plain) (IsPlainLiteral plain) ts given a.text)) same (a.of_given given o)),
+            (subst (λ b. OnWideTokens b query (λ ts. IsGivenText (literal_of plain) (IsPlainLiteral plain) ts given a.text)) same (a.of_given given o)),
       )
 
   pub steady_appended : (mode : Bool) → request.literals ≡ Steady → mode ≡ mode_of request.literals → IsTaken request query →
-      IsAppended steady_literal_of IsSteadyFor (grammar_reading mode) query values before after → AppendedFor mode
+      IsAppended steady_literal_of IsSteadyFor (wide_reading mode) query values before after → AppendedFor mode
   steady_appended mode e m taken a =
       let same : mode ≡ false = m ∙ ap mode_of e in (
         a.text,
         a.bytes,
         λ given o. steady_for request query given a.text taken e
-            (subst (λ b. OnTokens b query (λ ts. IsGivenText steady_literal_of IsSteadyFor ts given a.text)) same (a.of_given given o)),
+            (subst (λ b. OnWideTokens b query (λ ts. IsGivenText steady_literal_of IsSteadyFor ts given a.text)) same (a.of_given given o)),
       )
 
   -- it is the text of pairs that give them
   pub pairs_appended : (pairs : List (List ℕ × Value)) (mode : Bool) →
-      ((given : Given) × (given_of pairs ≡ Ok given) × OnTokens mode query (AreFound given values)) → AppendedFor mode →
+      ((given : Given) × (given_of pairs ≡ Ok given) × OnWideTokens mode query (AreFound given values)) → AppendedFor mode →
       IsTextAppended request query pairs before after
   pairs_appended pairs mode f a = record { given = f.0; given_is = f.1; text = a.0; bound = a.2 f.0 f.2; bytes = a.1 }
 
 -- a query that is taken has no mark
 pub unmixed : (request : Request) (query : List ℕ) → IsTaken request query → (mode : Bool) → mode ≡ mode_of request.literals →
-    OnTokens mode query (λ ts. mixed_cause ts ≡ None)
+    OnWideTokens mode query (λ ts. mixed_cause ts ≡ None)
 unmixed request query taken mode e =
     let o = taken.is_named in
-    subst (λ m. OnTokens m query (λ ts. mixed_cause ts ≡ None)) (sym e) (o.0, o.1, mixed_none o.0 (λ both. absurd (omega (arith, both.1, o.2))))
+    subst (λ m. OnWideTokens m query (λ ts. mixed_cause ts ≡ None)) (sym e) (o.0, o.1, mixed_none o.0 (λ both. absurd (omega (arith, both.1, o.2))))

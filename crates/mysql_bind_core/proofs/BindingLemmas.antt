@@ -1,6 +1,6 @@
 -- What holds of a value in another form, and what pairs give with their values borrowed.
 use Rattle.std.proofs.Common.{◌≡◌, ◌∙◌, ℕ, ◌+◌, ◌<◌, List, [], ◌∷◌, ◌++◌, length, map, take, get_or, refl, sym, ap, arith, Result, Ok, Err}
-use Rattle.std.specs.Prelude.{IfOk, IfErr}
+use Rattle.std.specs.Prelude.{IfOk, IfErr, IsErrAnd, IsErrOf}
 use Rattle.std.proofs.lemmas.List.{take_more, get_or-map, length-map, map-append}
 use Rattle.std.specs.Borrow.{Bor}
 use Rattle.mysql_values.specs.declared.value.Value.{Value}
@@ -21,6 +21,11 @@ if_ok (Err e) P Q f p = tt
 pub if_err : {A E : Type 0} (r : Result A E) (P Q : E → Type 0) → ((e : E) → P e → Q e) → IfErr r P → IfErr r Q
 if_err (Ok a) P Q f p = tt
 if_err (Err e) P Q f p = f e p
+
+-- an error that is handed on is the one that was found
+pub was_error : {A E : Type 0} (r : Result A E) (e x : E) → IsErrAnd r (λ t. t ≡ e) → IsErrOf r x → e ≡ x
+was_error (Ok a) e x same h = absurd same
+was_error (Err t) e x same h = let is : t ≡ x = cc in sym same ∙ is
 
 -- ---- pairs whose values are borrowed
 

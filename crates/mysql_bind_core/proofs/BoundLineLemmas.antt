@@ -1,29 +1,41 @@
 -- A text that is bound ends within no token, if the query doesn't.
 use Rattle.std.specs.Prelude.{Bool}
-use Rattle.std.proofs.Common.{◌≡◌, ◌++◌, ℕ, true, false, List, [], ◌∷◌, map, refl, sym, subst}
+use Rattle.std.proofs.Common.{◌≡◌, ◌++◌, ◌∙◌, ℕ, true, false, List, [], ◌∷◌, None, Some, length, map, refl, sym, subst}
+use Rattle.std.specs.Char.{to_ascii_lowercase}
 use Rattle.std.specs.List.{list_all}
 use Rattle.mysql_named_params.specs.Bytes.{newline, question_mark}
-use Rattle.mysql_named_params.specs.Tokens.{Token, IsTokens, AreTokensBefore, text_then, QuotedString, QuotedIdentifier, HashComment, DashComment, BlockComment, Name, Mark, Plain}
+use Rattle.mysql_named_params.specs.LoweredNames.{lower_names}
+use Rattle.mysql_named_params.specs.Places.{place_count}
+use Rattle.mysql_named_params.specs.Reading.{IsTokensIn, wide_reading}
+use Rattle.mysql_named_params.specs.WideNames.{run, widened_from}
+use Rattle.mysql_named_params.specs.Tokens.{Token, IsTokens, OnTokens, AreTokensBefore, text_of, text_then, QuotedString, QuotedIdentifier, HashComment, DashComment, BlockComment, Name, Mark, Plain}
+use Rattle.mysql_named_params.proofs.LoweredLemmas.{lowered_tokens}
 use Rattle.mysql_named_params.proofs.TokenEnds.{plain_at}
 use Rattle.mysql_named_params.proofs.TokenRowLemmas.{text_then-append, AreTokensBefore-after}
+use Rattle.mysql_named_params.proofs.WideLemmas.{goes_on, opens, plain_case, stays}
 use Rattle.mysql_portable.specs.Steady.{holds_no_escape, HoldNoEscapes, is_steady}
 use Rattle.mysql_portable.proofs.OtherModeLemmas.{tokens_before_other}
 use Rattle.mysql_portable.proofs.SteadyLemmas.{steady_tokens}
 use Rattle.mysql_params_core.specs.Given.{Given}
 use Rattle.mysql_binding.specs.Isolation.{IsBoundText}
+use Rattle.mysql_binding.specs.Pieces.{joined_text, pieces}
 use Rattle.mysql_binding.specs.Replaced.{AreLiterals, AreTokensOf, with_literal_tokens}
 use Rattle.mysql_binding.proofs.ReplacedLemmas.{IsLiteral-tokens}
-use Rattle.mysql_binding.proofs.SpliceLemmas.{Each}
+use Rattle.mysql_binding.proofs.PieceLemmas.{joined_text_count}
+use Rattle.mysql_binding.proofs.SpliceLemmas.{Each, as_many_lists}
 use Rattle.mysql_steady_text.specs.SteadyLiterals.{AreSteadyLiterals}
 use Rattle.mysql_steady_text.specs.SteadyText.{IsSteadyText}
 use Rattle.mysql_steady_text.proofs.SteadySpliceLemmas.{steady_isolated}
+use Rattle.mysql_steady_text.proofs.WideSteadyLemmas.{with_literal_tokens-lowered}
 use Rattle.mysql_fragments.specs.Expanded.{IsExpanded, IsBoundFragments}
 use Rattle.mysql_fragments.specs.FragmentShape.{AreFragments}
 use Rattle.mysql_fragments.specs.FragmentText.{fragment_text, mark_number}
 use Rattle.mysql_fragments.specs.GivenFragments.{GivenFragments}
 use Rattle.mysql_fragments.proofs.SplicedFragmentLemmas.{fragment_list}
 use Rattle.mysql_fragments.specs.SteadyFragments.{IsSteadyFragments}
+use Rattle.mysql_bind_core.specs.QueryEnd.{end, long_end}
 use Rattle.mysql_bind_core.specs.ScriptTokens.{semicolon}
+use Rattle.mysql_bind_core.proofs.ClosedQueryLemmas.{closed_query}
 use Rattle.mysql_bind_core.proofs.LineLemmas.{line_end, EndsAtLine, EndClosed, closed_before, closed_append, closed_rest, closed_kept}
 
 -- ---- lists of tokens in the places
@@ -112,41 +124,135 @@ pub record HasLine (mode : Bool) (text : List ℕ) : Type 0 where
   pub is : IsTokens mode text tokens
   pub closed : EndClosed mode tokens
 
-pub plain_line : (mode : Bool) (query : List ℕ) (ts : List Token) (given : Given) (text : List ℕ) → IsTokens mode query ts →
-    EndClosed mode ts → IsBoundText mode ts given text → HasLine mode text
-plain_line mode query ts given text h c b = record {
+-- ---- by wide names: the query with its names in lower case has the same literals in its places
+
+-- one token more in front, which ends the line if none follows
+ends_with : (mode : Bool) (t : Token) (us : List Token) → (us ≡ [] → EndsAtLine mode t) → EndClosed mode us → EndClosed mode (t ∷ us)
+ends_with mode t [] f c = f refl
+ends_with mode t (u ∷ us) f c = c
+
+nothing_read : (ts : List Token) → widened_from false ts ≡ [] → ts ≡ []
+nothing_read [] e = refl
+nothing_read (Plain b ∷ ts) e = elim (plain_case false b ts) [
+  | goes_on i w f ↦ absurd cc
+  | opens c w f ↦ let no : Name (run ts) ∷ widened_from true ts ≡ [] = sym f ∙ e in absurd cc
+  | stays i c f ↦ let no : Plain b ∷ widened_from false ts ≡ [] = sym f ∙ e in absurd cc
+]
+nothing_read (t ∷ ts) e = absurd cc
+
+nothing_lowered : (ts : List Token) → lower_names ts ≡ [] → ts ≡ []
+nothing_lowered [] e = refl
+nothing_lowered (Name name ∷ ts) e = absurd cc
+nothing_lowered (t ∷ ts) e = absurd cc
+
+-- a name ends the line
+name_ends : (mode : Bool) (name : List ℕ) (us : List Token) → AreTokensBefore mode [] (Name name ∷ us) → us ≡ [] → EndsAtLine mode (Name name)
+name_ends mode name us h e = (h.0.0, refl)
+
+-- the last token stays, if it is no part of a name
+stays_last : (mode : Bool) (t : Token) (ts : List Token) → EndClosed mode (t ∷ ts) → lower_names (widened_from false ts) ≡ [] → EndsAtLine mode t
+stays_last mode t ts c e =
+    let none : ts ≡ [] = nothing_read ts (nothing_lowered (widened_from false ts) e) in
+    subst (λ us. EndClosed mode (t ∷ us)) none c
+
+lowered_closed : (mode inside : Bool) (own : List Token) → EndClosed mode own → AreTokensBefore mode [] (lower_names (widened_from inside own)) →
+    EndClosed mode (lower_names (widened_from inside own))
+lowered_closed mode inside [] c h = tt
+lowered_closed mode inside (Plain b ∷ ts) c h = elim (plain_case inside b ts) [
+  | goes_on i w e ↦
+      subst (λ us. EndClosed mode (lower_names us)) (sym e)
+      (lowered_closed mode true ts (closed_rest mode (Plain b) ts c) (subst (λ us. AreTokensBefore mode [] (lower_names us)) e h))
+  | opens o w e ↦
+      let k : AreTokensBefore mode [] (lower_names (Name (run ts) ∷ widened_from true ts)) = subst (λ us. AreTokensBefore mode [] (lower_names us)) e h in
+      subst (λ us. EndClosed mode (lower_names us)) (sym e)
+      (ends_with mode (Name (map to_ascii_lowercase (run ts))) (lower_names (widened_from true ts)) (name_ends mode (map to_ascii_lowercase (run ts)) (lower_names (widened_from true ts)) k)
+      (lowered_closed mode true ts (closed_rest mode (Plain b) ts c) k.1))
+  | stays i o e ↦
+      let k : AreTokensBefore mode [] (lower_names (Plain b ∷ widened_from false ts)) = subst (λ us. AreTokensBefore mode [] (lower_names us)) e h in
+      subst (λ us. EndClosed mode (lower_names us)) (sym e)
+      (ends_with mode (Plain b) (lower_names (widened_from false ts)) (stays_last mode (Plain b) ts c)
+      (lowered_closed mode false ts (closed_rest mode (Plain b) ts c) k.1))
+]
+lowered_closed mode inside (Name name ∷ ts) c h =
+    ends_with mode (Name (map to_ascii_lowercase (name ++ run ts))) (lower_names (widened_from true ts)) (name_ends mode (map to_ascii_lowercase (name ++ run ts)) (lower_names (widened_from true ts)) h)
+    (lowered_closed mode true ts (closed_rest mode (Name name) ts c) h.1)
+lowered_closed mode inside (t ∷ ts) c h =
+    ends_with mode t (lower_names (widened_from false ts)) (stays_last mode t ts c)
+    (lowered_closed mode false ts (closed_rest mode t ts c) h.1)
+
+-- a query that ends within no token, with its wide names in lower case
+pub record IsClosedLowered (mode : Bool) (ts : List Token) : Type 0 where
+  pub is : IsTokens mode (text_of (lower_names ts)) (lower_names ts)
+  pub closed : EndClosed mode (lower_names ts)
+
+pub closed_lowered : (mode : Bool) (query : List ℕ) (ts : List Token) → IsTokensIn (wide_reading mode) query ts →
+    OnTokens mode (query ++ end) (λ us. None ≡ long_end us) → IsClosedLowered mode ts
+closed_lowered mode query ts is closed =
+    let low = lowered_tokens mode query is.0 is.1 in
+    subst (IsClosedLowered mode) (sym is.2)
+    (record { is = low; closed = lowered_closed mode false is.0 (closed_query mode query is.0 is.1 closed) low.each })
+
+-- with other tokens in its places
+replaced_closed : (mode : Bool) (ts : List Token) (lists : List (List Token)) → IsClosedLowered mode ts → length lists ≡ place_count ts →
+    AreTokensBefore mode [] (with_literal_tokens ts lists) → Each (EndClosed mode) lists → EndClosed mode (with_literal_tokens ts lists)
+replaced_closed mode ts lists h n k e =
+    let same = with_literal_tokens-lowered ts lists n in
+    subst (EndClosed mode) same
+    (closed_bound mode (lower_names ts) lists h.is.each (subst (AreTokensBefore mode []) (sym same) k) h.closed e)
+
+-- as many lists as places
+pub places_filled : (mode : Bool) (ts : List Token) (texts : List (List ℕ)) (lists : List (List Token)) (text : List ℕ) → AreTokensOf mode texts lists →
+    joined_text (pieces ts) texts ≡ Some text → length lists ≡ place_count ts
+places_filled mode ts texts lists text t e = as_many_lists mode texts lists t ∙ joined_text_count [] ts texts text e
+
+pub plain_line : (mode : Bool) (ts : List Token) (given : Given) (text : List ℕ) → IsClosedLowered mode ts →
+    IsBoundText mode ts given text → HasLine mode text
+plain_line mode ts given text c b = record {
   tokens = with_literal_tokens ts b.literal_tokens;
   is = b.isolated;
-  closed = closed_bound mode ts b.literal_tokens h.each b.isolated.each c (closed_literals mode b.literals b.literal_tokens b.shapes b.tokens_of_literals);
+  closed = replaced_closed mode ts b.literal_tokens c (places_filled mode ts b.literals b.literal_tokens text b.tokens_of_literals b.text_is) b.isolated.each
+      (closed_literals mode b.literals b.literal_tokens b.shapes b.tokens_of_literals);
 }
 
-pub steady_line : (query : List ℕ) (ts : List Token) (given : Given) (text : List ℕ) → IsTokens false query ts →
-    EndClosed false ts → IsSteadyText ts given text → (mode : Bool) → HasLine mode text
-steady_line query ts given text h c b mode =
+pub steady_line : (ts : List Token) (given : Given) (text : List ℕ) → IsClosedLowered false ts →
+    IsSteadyText ts given text → (mode : Bool) → HasLine mode text
+steady_line ts given text c b mode =
     let us : List Token = with_literal_tokens ts b.literal_tokens in
-    let closed : EndClosed false us = closed_bound false ts b.literal_tokens h.each (b.isolated false).each c (closed_steady false b.literals b.literal_tokens b.shapes (b.tokens_of_literals false)) in
+    let closed : EndClosed false us = replaced_closed false ts b.literal_tokens c (places_filled false ts b.literals b.literal_tokens text (b.tokens_of_literals false) b.text_is) (b.isolated false).each
+    (closed_steady false b.literals b.literal_tokens b.shapes (b.tokens_of_literals false)) in
     record {
       tokens = us;
       is = b.isolated mode;
       closed = closed_other mode us (steady_tokens us (subst (λ x. list_all is_steady x ≡ true) (sym (b.isolated false).text) b.steady)) closed;
     }
 
--- the tokens of an expanded query
-expanded_closed : (mode : Bool) (query : List ℕ) (ts : List Token) (given : GivenFragments) (text : List ℕ) →
-    IsTokens mode query ts → EndClosed mode ts → (x : IsExpanded true mode ts given text) →
-    EndClosed mode (with_literal_tokens ts x.lists)
-expanded_closed mode query ts given text h c x =
-    closed_bound mode ts x.lists h.each x.isolated.each c
+-- the tokens of an expanded query, in which no names are left
+expanded_closed : (mode : Bool) (ts : List Token) (given : GivenFragments) (text : List ℕ) →
+    IsClosedLowered mode ts → (x : IsExpanded true mode ts given text) → EndClosed mode (with_literal_tokens ts x.lists)
+expanded_closed mode ts given text c x =
+    replaced_closed mode ts x.lists c (places_filled mode ts (map fragment_text x.fragments) x.lists text x.tokens_of_fragments x.text_is) x.isolated.each
     (closed_fragments mode (map mark_number x.fragments) (map fragment_text x.fragments) x.lists x.shapes x.tokens_of_fragments)
 
-pub fragments_line : (mode : Bool) (query : List ℕ) (ts : List Token) (given : GivenFragments) (text : List ℕ) →
-    IsTokens mode query ts → EndClosed mode ts → IsBoundFragments mode ts given text → HasLine mode text
-fragments_line mode query ts given text h c b =
-    plain_line mode b.query (with_literal_tokens ts b.expanded.lists) _ text b.expanded.isolated
-    (expanded_closed mode query ts given b.query h c b.expanded) b.bound
+pub fragments_line : (mode : Bool) (ts : List Token) (given : GivenFragments) (text : List ℕ) →
+    IsClosedLowered mode ts → IsBoundFragments mode ts given text → HasLine mode text
+fragments_line mode ts given text c b =
+    let us = with_literal_tokens ts b.expanded.lists in
+    record {
+      tokens = with_literal_tokens us b.bound.literal_tokens;
+      is = b.bound.isolated;
+      closed = closed_bound mode us b.bound.literal_tokens b.expanded.isolated.each b.bound.isolated.each (expanded_closed mode ts given b.query c b.expanded)
+          (closed_literals mode b.bound.literals b.bound.literal_tokens b.bound.shapes b.bound.tokens_of_literals);
+    }
 
-pub steady_fragments_line : (query : List ℕ) (ts : List Token) (given : GivenFragments) (text : List ℕ) →
-    IsTokens false query ts → EndClosed false ts → IsSteadyFragments ts given text → (mode : Bool) → HasLine mode text
-steady_fragments_line query ts given text h c b mode =
-    steady_line b.query (with_literal_tokens ts b.expanded.lists) _ text (b.isolated false)
-    (expanded_closed false query ts given b.query h c b.expanded) b.bound mode
+pub steady_fragments_line : (ts : List Token) (given : GivenFragments) (text : List ℕ) →
+    IsClosedLowered false ts → IsSteadyFragments ts given text → (mode : Bool) → HasLine mode text
+steady_fragments_line ts given text c b mode =
+    let us = with_literal_tokens ts b.expanded.lists in
+    let vs : List Token = with_literal_tokens us b.bound.literal_tokens in
+    let closed : EndClosed false vs = closed_bound false us b.bound.literal_tokens (b.isolated false).each (b.bound.isolated false).each (expanded_closed false ts given b.query c b.expanded)
+    (closed_steady false b.bound.literals b.bound.literal_tokens b.bound.shapes (b.bound.tokens_of_literals false)) in
+    record {
+      tokens = vs;
+      is = b.bound.isolated mode;
+      closed = closed_other mode vs (steady_tokens vs (subst (λ x. list_all is_steady x ≡ true) (sym (b.bound.isolated false).text) b.bound.steady)) closed;
+    }

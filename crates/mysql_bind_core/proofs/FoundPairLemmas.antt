@@ -13,8 +13,7 @@ use Rattle.std.proofs.lemmas.List.{map-append}
 use Rattle.mysql_values.specs.declared.value.Value.{Value}
 use Rattle.mysql_values.specs.ValueOf.{Meaning}
 use Rattle.mysql_named_params.specs.Places.{names}
-use Rattle.mysql_named_params.specs.Tokens.{OnTokens}
-use Rattle.mysql_named_params.specs.Reading.{grammar_reading}
+use Rattle.mysql_named_params.specs.Reading.{OnWideTokens, wide_reading}
 use Rattle.mysql_params_core.specs.Given.{Given, ValueMap, named}
 use Rattle.mysql_params_core.specs.Lookup.{lookup}
 use Rattle.mysql_params_core.specs.Made.{by_name, with_pair}
@@ -119,16 +118,16 @@ lookup_named m (name ∷ ns) values some e = rw (values_at-from m (name ∷ ns) 
 
 -- what the pairs give, and the values that are found for the names of a query
 pub found_on : (mode : Bool) (query : List ℕ) (pairs : List (List ℕ × Value)) (ns : List (List ℕ)) (values : List Value) → 0 < length pairs →
-    are_distinct pairs ≡ true → 0 < length ns → AreValuesIn pairs ns values → OnTokens mode query (λ ts. mixed_cause ts ≡ None) →
-    OnTokens mode query (λ ts. ns ≡ names ts) → (given : Given) × (given_of pairs ≡ Ok given) × OnTokens mode query (AreFound given values)
+    are_distinct pairs ≡ true → 0 < length ns → AreValuesIn pairs ns values → OnWideTokens mode query (λ ts. mixed_cause ts ≡ None) →
+    OnWideTokens mode query (λ ts. ns ≡ names ts) → (given : Given) × (given_of pairs ≡ Ok given) × OnWideTokens mode query (AreFound given values)
 found_on mode query pairs ns values some distinct many found unmixed listed =
     let m = pairs_give pairs some distinct in
     let looked : lookup (named m.0) ns ≡ Ok values = lookup_named m.0 ns values many (same_found m.0 pairs m.2 ns ∙ found) in (
       named m.0,
       m.1,
-      on_map (grammar_reading mode) query (λ ts. (mixed_cause ts ≡ None) × (ns ≡ names ts)) (AreFound (named m.0) values)
+      on_map (wide_reading mode) query (λ ts. (mixed_cause ts ≡ None) × (ns ≡ names ts)) (AreFound (named m.0) values)
           (λ ts is h. (h.0, ap (lookup (named m.0)) (sym h.1) ∙ looked))
-          (on_both (grammar_reading mode) query (λ ts. mixed_cause ts ≡ None) (λ ts. ns ≡ names ts) unmixed listed),
+          (on_both (wide_reading mode) query (λ ts. mixed_cause ts ≡ None) (λ ts. ns ≡ names ts) unmixed listed),
     )
 
 -- one name more

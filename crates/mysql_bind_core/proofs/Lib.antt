@@ -15,6 +15,7 @@ pub mod ScriptLemmas
 pub mod LineLemmas
 pub mod ClosedQueryLemmas
 pub mod BoundLineLemmas
+pub mod LoweredTextLemmas
 pub mod ScriptTokenLemmas
 pub mod ScriptCountLemmas
 pub mod AlikeLineLemmas

@@ -12,7 +12,7 @@ use Rattle.std.proofs.lemmas.List.{at_drop_all, get_or-map, length-map, map-appe
 use Rattle.mysql_values.specs.declared.value.Value.{Value}
 use Rattle.mysql_values.specs.declared.value.Value.TheVariants.{NULL}
 use Rattle.mysql_named_params.specs.Places.{names}
-use Rattle.mysql_named_params.specs.Tokens.{OnTokens}
+use Rattle.mysql_named_params.specs.Reading.{OnWideTokens}
 use Rattle.mysql_params_core.specs.Given.{Given, ValueMap}
 use Rattle.mysql_params_core.specs.Referents.{referents}
 use Rattle.mysql_params_core.specs.Made.{ToParamsRefusal, by_name, redefined, pairs_made, with_pair}
@@ -120,7 +120,7 @@ values_at columns vs distinct (n ∷ ns) (i ∷ numbers) (v ∷ placed) e f =
 pub cells_found : (q : QueryInMode) (request : Request) (columns : List (List ℕ)) (numbers : List ℕ) (vs placed : List Value) →
     IsTaken request q.query → q.mode ≡ mode_of request.literals → HaveNumbers q columns numbers → length vs ≡ length columns →
     map (slice_get vs) numbers ≡ map (λ v. Some v) placed →
-    (given : Given) × (given_of (paired columns vs) ≡ Ok given) × OnTokens q.mode q.query (AreFound given placed)
+    (given : Given) × (given_of (paired columns vs) ≡ Ok given) × OnWideTokens q.mode q.query (AreFound given placed)
 cells_found q request columns numbers vs placed taken mode have same found =
     let o = have.are in
     let ns = names o.0 in

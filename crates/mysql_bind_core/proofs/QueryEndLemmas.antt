@@ -8,18 +8,22 @@ use Rattle.mysql_named_params.specs.Bytes.{asterisk, backquote, colon, dash, has
 use Rattle.mysql_named_params.specs.Tokens.{Token, IsToken, IsTokens, OnTokens, AreTokensBefore, IsStringTail, bytes_of, text_of, text_then, QuotedString, QuotedIdentifier, HashComment, DashComment, BlockComment, Name, Mark, Plain}
 use Rattle.mysql_named_params.specs.FirstToken.{IsFirstToken}
 use Rattle.mysql_named_params.specs.TokensOf.{len_up_to, string_len}
-use Rattle.mysql_named_params.specs.FirstPlace.{IsFirstPlace, place_kind}
+use Rattle.mysql_named_params.specs.FirstPlace.{IsFirstPlace}
+use Rattle.mysql_named_params.specs.Reading.{IsTokensWith, OnTokensIn}
+use Rattle.mysql_named_params.specs.WideNames.{run, widened, widened_from}
 use Rattle.mysql_named_params.specs.declared.places.FoundPlace.{FoundPlace}
-use Rattle.mysql_named_params.specs.declared.places.PlaceKind.{PlaceKind}
+use Rattle.mysql_named_params.specs.declared.places.Reading.{Reading}
 use Rattle.mysql_named_params.specs.declared.tokens.TokenKind.{TokenKind}
-use Rattle.mysql_named_params.proofs.CutLemmas.{BeginsWithTokens, cut_none, cut_more, tokens_then, first_within, token_length}
-use Rattle.mysql_named_params.proofs.FoundPlaceLemmas.{parted}
+use Rattle.mysql_named_params.proofs.CutLemmas.{BeginsWithTokens, cut_none, cut_more, tokens_then, first_within}
+use Rattle.mysql_named_params.proofs.FoundPlaceLemmas.{parted_in}
 use Rattle.mysql_named_params.proofs.FirstTokenLemmas.{rest_is}
 use Rattle.mysql_named_params.proofs.PlainLemmas.{plain_none}
+use Rattle.mysql_named_params.proofs.ReadingLemmas.{reading_text}
+use Rattle.mysql_named_params.proofs.WideLemmas.{goes_on, opens, plain_case, stays as stays_plain, text_of-widened}
 use Rattle.mysql_named_params.proofs.TokenEndLemmas.{slice_from, string_gives, up_to_gives}
 use Rattle.mysql_named_params.proofs.TokenEnds.{plain_at}
 use Rattle.mysql_named_params.proofs.TokenListLemmas.{one_token, some_byte}
-use Rattle.mysql_named_params.proofs.TokenRowLemmas.{text_then-append, text_then-text_of, text_of-append, AreTokensBefore-after, AreTokensBefore-append}
+use Rattle.mysql_named_params.proofs.TokenRowLemmas.{text_then-append, text_then-text_of, text_of-append, AreTokensBefore-append}
 use Rattle.mysql_bind_core.proofs.NewlineLemmas.{token_then_newline, plain_move, plain_newline}
 use Rattle.mysql_bind_core.specs.QueryEnd.{end, last_at, long_end, long_end_from}
 
@@ -404,64 +408,87 @@ cut_then mode query rest more ts us c r = record {
   each = AreTokensBefore-append mode ts us more (subst (λ x. AreTokensBefore mode x ts) (sym r.text) c.each) r.each;
 }
 
-no_tokens : (ts : List Token) → text_of ts ≡ [] → ts ≡ []
-no_tokens [] n = refl
-no_tokens (t ∷ ts) n = absurd (some_byte t (text_of ts) n)
+-- some tokens of the grammar in front of those that are left, whose wide reading is what is left of theirs
+record CutWide (own back : List Token) : Type 0 where
+  front : List Token
+  left : List Token
+  are : own ≡ front ++ left
+  back_is : back ≡ widened left
 
-some_bytes : (t : Token) (ts : List Token) → 0 < length (text_of (t ∷ ts))
-some_bytes t ts = omega (arith, token_length t, length-append (bytes_of t) (text_of ts))
+-- one token more in front
+cut_more_wide : (t : Token) (own back : List Token) → CutWide own back → CutWide (t ∷ own) back
+cut_more_wide t own back c = record { front = t ∷ c.front; left = c.left; are = ap (λ ts. t ∷ ts) c.are; back_is = c.back_is }
 
--- a place stays what it is before the end
-place_closed : (mode : Bool) (t : Token) (rest : List ℕ) (k : PlaceKind) → place_kind t ≡ Some k → IsToken mode t rest → (at : ℕ) →
-    OnTokens mode (bytes_of t ++ end) (λ us. None ≡ long_end_from at us)
-place_closed mode (Name name) rest k is h at = stays mode (bytes_of (Name name)) (Name name) refl (h.0, refl) at
-place_closed mode Mark rest k is h at = stays mode (bytes_of Mark) Mark refl tt at
-place_closed mode t rest k is h at = cc
+-- a wide name in front takes its run
+cut_run : (own : List Token) → CutWide own (widened_from true own)
+cut_run [] = record { front = []; left = []; are = refl; back_is = refl }
+cut_run (Plain b ∷ ts) = elim (plain_case true b ts) [
+  | goes_on i w e ↦ subst (CutWide (Plain b ∷ ts)) (sym e) (cut_more_wide (Plain b) ts (widened_from true ts) (cut_run ts))
+  | opens c w e ↦
+      let same : widened_from false (Plain b ∷ ts) ≡ Name (run ts) ∷ widened_from true ts = rw (c, w) refl in
+      record { front = []; left = Plain b ∷ ts; are = refl; back_is = e ∙ sym same }
+  | stays_plain i c e ↦
+      let same : widened_from false (Plain b ∷ ts) ≡ Plain b ∷ widened_from false ts = rw c refl in
+      record { front = []; left = Plain b ∷ ts; are = refl; back_is = e ∙ sym same }
+]
+cut_run (t ∷ ts) = record { front = []; left = t ∷ ts; are = refl; back_is = refl }
 
--- the query up to a token of the rest
-passed_front : (mode : Bool) (query rest : List ℕ) (p : PassedTo mode query rest) (front : List Token) (place : Token) (back : List Token) →
-    IsTokens mode rest (front ++ place ∷ back) → PassedTo mode query (text_of (place ∷ back))
-passed_front mode query rest p front place back is = record {
-  tokens = p.tokens ++ front;
-  cut = cut_then mode query rest (text_of (place ∷ back)) p.tokens front p.cut (cut_before mode rest front (place ∷ back) is);
-  some = λ h. some_bytes place back;
-  within = omega (arith, p.within, ap length (sym (text_of-append front (place ∷ back)) ∙ is.text), length-append (text_of front) (text_of (place ∷ back)));
-}
+-- after any tokens of the wide reading
+cut_wide : (inside : Bool) (own front back : List Token) → widened_from inside own ≡ front ++ back → CutWide own back
+cut_wide true own [] back e = subst (CutWide own) e (cut_run own)
+cut_wide false own [] back e = record { front = []; left = own; are = refl; back_is = sym e }
+cut_wide inside [] (t ∷ front) back e = absurd cc
+cut_wide inside (Plain b ∷ ts) (t ∷ front) back e = elim (plain_case inside b ts) [
+  | goes_on i w f ↦ cut_more_wide (Plain b) ts back (cut_wide true ts (t ∷ front) back (sym f ∙ e))
+  | opens c w f ↦
+      let both : Name (run ts) ∷ widened_from true ts ≡ t ∷ (front ++ back) = sym f ∙ e in
+      let more : widened_from true ts ≡ front ++ back = cc in
+      cut_more_wide (Plain b) ts back (cut_wide true ts front back more)
+  | stays_plain i c f ↦
+      let both : Plain b ∷ widened_from false ts ≡ t ∷ (front ++ back) = sym f ∙ e in
+      let more : widened_from false ts ≡ front ++ back = cc in
+      cut_more_wide (Plain b) ts back (cut_wide false ts front back more)
+]
+cut_wide inside (Name name ∷ ts) (t ∷ front) back e =
+    let more : widened_from true ts ≡ front ++ back = cc in
+    cut_more_wide (Name name) ts back (cut_wide true ts front back more)
+cut_wide inside (u ∷ ts) (t ∷ front) back e =
+    let more : widened_from false ts ≡ front ++ back = cc in
+    cut_more_wide u ts back (cut_wide false ts front back more)
 
--- a last token that is a place is closed
-last_place : (mode : Bool) (query : List ℕ) (place : Token) (k : PlaceKind) → place_kind place ≡ Some k → IsToken mode place [] →
-    PassedTo mode query (bytes_of place) → OnTokens mode (query ++ end) (λ us. None ≡ long_end us)
-last_place mode query place k is h q =
-    last_end mode query (bytes_of place) at None q (token_length place) within (place_closed mode place [] k is h at)
-  where
-    at : ℕ
-    at = length query - length (bytes_of place)
+-- in either reading, some tokens of the grammar stand in front of what is left
+record CutIn (mode : Bool) (text : List ℕ) (back : List Token) : Type 0 where
+  front : List Token
+  left : List Token
+  tokens : IsTokens mode text (front ++ left)
+  left_text : text_of left ≡ text_of back
 
-    within : at + length (bytes_of place) ≡ length query
-    within = omega (arith, q.within)
+cut_in : (wide mode : Bool) (text : List ℕ) (ts front back : List Token) → IsTokensWith wide mode text ts → ts ≡ front ++ back →
+    CutIn mode text back
+cut_in false mode text ts front back is e = record { front = front; left = back; tokens = subst (IsTokens mode text) e is; left_text = refl }
+cut_in true mode text ts front back is e =
+    let c = cut_wide false is.0 front back (sym is.2 ∙ e) in
+    record {
+      front = c.front;
+      left = c.left;
+      tokens = subst (IsTokens mode text) c.are is.1;
+      left_text = sym (ap text_of c.back_is ∙ text_of-widened c.left);
+    }
 
-module _ (mode : Bool) (query rest after : List ℕ) (found : FoundPlace) (p : PassedTo mode query rest) (o : OnTokens mode rest (λ us. IsFirstPlace us found)) (e : after ≡ drop (found.before + found.len) rest) where
-  -- with the place, its text and what stands before it
-  pub passed_place : length after ≢ 0 → PassedTo mode query after
-  passed_place some =
-      let at = parted mode rest o.0 found o.1 o in
-      let split : o.0 ≡ (at.front ++ at.place ∷ []) ++ at.back = at.tokens_are ∙ sym (append_assoc at.front (at.place ∷ []) at.back) in
-      let is : IsTokens mode rest ((at.front ++ at.place ∷ []) ++ at.back) = subst (IsTokens mode rest) split o.1 in
-      let left : text_of at.back ≡ after = at.rest_tokens.text ∙ sym e in
-      record {
-        tokens = p.tokens ++ (at.front ++ at.place ∷ []);
-        cut = cut_then mode query rest after p.tokens (at.front ++ at.place ∷ []) p.cut
-            (subst (λ x. BeginsWithTokens mode rest x (at.front ++ at.place ∷ [])) left (cut_before mode rest (at.front ++ at.place ∷ []) at.back is));
-        some = λ h. omega (arith, some);
-        within = omega (arith, p.within, ap length e, length-drop (found.before + found.len) rest);
-      }
-
-  -- a place at the end is closed
-  pub ends_with_place : length after ≡ 0 → OnTokens mode (query ++ end) (λ us. None ≡ long_end us)
-  ends_with_place none =
-      let at = parted mode rest o.0 found o.1 o in
-      let is : IsTokens mode rest (at.front ++ at.place ∷ at.back) = subst (IsTokens mode rest) at.tokens_are o.1 in
-      let no_more : at.back ≡ [] = no_tokens at.back (at.rest_tokens.text ∙ (sym e ∙ nil_from_length after none)) in
-      let last : IsTokens mode rest (at.front ++ at.place ∷ []) = subst (λ x. IsTokens mode rest (at.front ++ at.place ∷ x)) no_more is in
-      last_place mode query at.place found.kind at.kind_is ((AreTokensBefore-after mode at.front (at.place ∷ []) [] last.each).0)
-      (subst (PassedTo mode query) (append-nil (bytes_of at.place)) (passed_front mode query rest p at.front at.place [] last))
+-- with the place, its text and what stands before it
+pub passed_place : (reading : Reading) (query rest after : List ℕ) (found : FoundPlace) → PassedTo reading.no_backslash_escape query rest →
+    OnTokensIn reading rest (λ us. IsFirstPlace us found) → after ≡ drop (found.before + found.len) rest → length after ≢ 0 →
+    PassedTo reading.no_backslash_escape query after
+passed_place reading query rest after found p o e some =
+    let mode = reading.no_backslash_escape in
+    let at = parted_in reading rest o.0 found o.1 o in
+    let split : o.0 ≡ (at.front ++ at.place ∷ []) ++ at.back = at.tokens_are ∙ sym (append_assoc at.front (at.place ∷ []) at.back) in
+    let c = cut_in reading.wide_names mode rest o.0 (at.front ++ at.place ∷ []) at.back o.1 split in
+    let left : text_of c.left ≡ after = c.left_text ∙ (reading_text reading _ at.back at.rest_tokens ∙ sym e) in
+    record {
+      tokens = p.tokens ++ c.front;
+      cut = cut_then mode query rest after p.tokens c.front p.cut
+          (subst (λ x. BeginsWithTokens mode rest x c.front) left (cut_before mode rest c.front c.left c.tokens));
+      some = λ h. omega (arith, some);
+      within = omega (arith, p.within, ap length e, length-drop (found.before + found.len) rest);
+    }

@@ -5,6 +5,7 @@ use Rattle.std.specs.List.{list_all}
 use Rattle.std.proofs.lemmas.Bool.{and_parts}
 use Rattle.mysql_named_params.specs.Bytes.{backquote, colon, dash, double_quote, hash, question_mark, single_quote, slash}
 use Rattle.mysql_named_params.specs.PlainBytes.{is_always_plain}
+use Rattle.mysql_named_params.specs.Reading.{IsTokensIn, wide_reading}
 use Rattle.mysql_named_params.specs.Tokens.{Token, IsToken, IsTokens, AreTokensBefore, text_of, Plain}
 use Rattle.mysql_named_params.proofs.TokenEnds.{plain_at}
 use Rattle.mysql_named_params.proofs.TokenRowLemmas.{text_of-append, AreTokensBefore-append}
@@ -25,40 +26,39 @@ use Rattle.mysql_bind_core.specs.declared.request.Request.{Request}
 use Rattle.mysql_bind_core.specs.declared.row.Row.{Row}
 use Rattle.mysql_bind_core.specs.Scripts.{AreStatements, AreWritten, IsScript, closing, opening, script, statement}
 use Rattle.mysql_bind_core.specs.ScriptTokens.{IsReadIn, script_tokens, statement_tokens, tokens_of_statements, word_tokens}
-use Rattle.mysql_bind_core.proofs.BoundLineLemmas.{HasLine, plain_line, steady_line, fragments_line, steady_fragments_line}
-use Rattle.mysql_bind_core.proofs.ClosedQueryLemmas.{closed_query}
+use Rattle.mysql_bind_core.proofs.BoundLineLemmas.{HasLine, IsClosedLowered, closed_lowered, fragments_line, plain_line, steady_fragments_line, steady_line}
 use Rattle.mysql_bind_core.proofs.LineLemmas.{line_end, EndClosed, closed_before, statement_before, statement_text}
 
 -- ---- the text of a row
 
-values_line : (literals : Literals) (wanted : Portability) (query : List ℕ) (ts : List Token) (given : Given) (text : List ℕ)
-    (mode : Bool) → IsReadIn literals mode → IsTokens (mode_of literals) query ts → EndClosed (mode_of literals) ts →
-    IsTextFor literals wanted query ts given text → HasLine mode text
-values_line literals.Steady portability.Portable query ts given text mode r h c b = steady_line query ts given text h c b.steady_text mode
-values_line literals.Steady portability.Any query ts given text mode r h c b = steady_line query ts given text h c b mode
-values_line (literals.Plain own) wanted query ts given text mode r h c b =
-    subst (λ m. HasLine m text) r (plain_line own query ts given text h c b)
+values_line : (literals : Literals) (wanted : Portability) (ts : List Token) (given : Given) (text : List ℕ)
+    (mode : Bool) → IsReadIn literals mode → IsClosedLowered (mode_of literals) ts →
+    IsTextFor literals wanted ts given text → HasLine mode text
+values_line literals.Steady portability.Portable ts given text mode r c b = steady_line ts given text c b.steady_text mode
+values_line literals.Steady portability.Any ts given text mode r c b = steady_line ts given text c b mode
+values_line (literals.Plain own) wanted ts given text mode r c b =
+    subst (λ m. HasLine m text) r (plain_line own ts given text c b)
 
-named_line : (literals : Literals) (wanted : Portability) (query : List ℕ) (ts : List Token) (given : GivenFragments) (text : List ℕ)
-    (mode : Bool) → IsReadIn literals mode → IsTokens (mode_of literals) query ts → EndClosed (mode_of literals) ts →
-    IsFragmentsFor literals wanted query ts given text → HasLine mode text
-named_line literals.Steady portability.Portable query ts given text mode r h c b = steady_fragments_line query ts given text h c b.steady_text mode
-named_line literals.Steady portability.Any query ts given text mode r h c b = steady_fragments_line query ts given text h c b mode
-named_line (literals.Plain own) wanted query ts given text mode r h c b =
-    subst (λ m. HasLine m text) r (fragments_line own query ts given text h c b)
+named_line : (literals : Literals) (wanted : Portability) (ts : List Token) (given : GivenFragments) (text : List ℕ)
+    (mode : Bool) → IsReadIn literals mode → IsClosedLowered (mode_of literals) ts →
+    IsFragmentsFor literals wanted ts given text → HasLine mode text
+named_line literals.Steady portability.Portable ts given text mode r c b = steady_fragments_line ts given text c b.steady_text mode
+named_line literals.Steady portability.Any ts given text mode r c b = steady_fragments_line ts given text c b mode
+named_line (literals.Plain own) wanted ts given text mode r c b =
+    subst (λ m. HasLine m text) r (fragments_line own ts given text c b)
 
 assigned_line : (request : Request) (query : List ℕ) (assignments : List Assignment) (text : List ℕ) (mode : Bool) →
-    IsReadIn request.literals mode → ((ts : List Token) → IsTokens (mode_of request.literals) query ts → EndClosed (mode_of request.literals) ts) →
+    IsReadIn request.literals mode → ((ts : List Token) → IsTokensIn (wide_reading (mode_of request.literals)) query ts → IsClosedLowered (mode_of request.literals) ts) →
     IsAssignedText request query assignments text → HasLine mode text
 assigned_line request query assignments text mode r c (of_values none v) =
-    values_line request.literals request.portability query v.bound.0 v.given text mode r v.bound.1 (c v.bound.0 v.bound.1) v.bound.2
+    values_line request.literals request.portability v.bound.0 v.given text mode r (c v.bound.0 v.bound.1) v.bound.2
 assigned_line request query assignments text mode r c (of_fragments some f) =
-    named_line request.literals request.portability query f.bound.0 (named f.entries) text mode r f.bound.1 (c f.bound.0 f.bound.1) f.bound.2
+    named_line request.literals request.portability f.bound.0 (named f.entries) text mode r (c f.bound.0 f.bound.1) f.bound.2
 
 written_line : (request : Request) (query : List ℕ) (assignments : List Assignment) (text : List ℕ) (mode : Bool) →
     IsReadIn request.literals mode → IsWritten request query assignments text → HasLine mode text
 written_line request query assignments text mode r w =
-    assigned_line request query assignments text mode r (λ ts h. closed_query (mode_of request.literals) query ts h w.taken.closed) w.assigned
+    assigned_line request query assignments text mode r (λ ts h. closed_lowered (mode_of request.literals) query ts h w.taken.closed) w.assigned
 
 -- the texts have tokens, and each ends within none
 record HasLines (mode : Bool) (texts : List (List ℕ)) : Type 0 where

@@ -1,7 +1,10 @@
 -- What is written for a request, a query and assignments: the bound text of the whole query, whose
--- values are exactly those that the bytes of the assignments mean.
+-- values are exactly those that the bytes of the assignments mean. A query is read by wide names,
+-- which may have capitals.
 use Rattle.std.specs.Prelude.{◌≡◌, ℕ, true, false, List, ◌++◌, map, None, Some, Ok}
 use Rattle.mysql_values.specs.declared.value.Value.{Value}
+use Rattle.mysql_named_params.specs.LoweredNames.{lower_names}
+use Rattle.mysql_named_params.specs.Reading.{OnWideTokens}
 use Rattle.mysql_named_params.specs.Tokens.{Token, OnTokens}
 use Rattle.mysql_named_params.specs.NamesAndMarks.{marks}
 use Rattle.mysql_portable.specs.SteadyBytes.{IsSteady}
@@ -10,7 +13,8 @@ use Rattle.mysql_params_core.specs.GivenValues.{Given}
 use Rattle.mysql_binding.specs.Isolation.{IsBoundText}
 use Rattle.mysql_fragments.specs.GivenFragments.{FragmentMap, named}
 use Rattle.mysql_fragments.specs.declared.fragment.Fragment.{Fragment}
-use Rattle.mysql_steady_text.specs.SteadyText.{IsAnywhereText, IsSteadyText}
+use Rattle.mysql_steady_text.specs.SteadyText.{IsSteadyText}
+use Rattle.mysql_steady_text.specs.WideAnywhere.{IsWideAnywhereText}
 use Rattle.mysql_bind_core.specs.Assignments.{given_of, pairs_of}
 use Rattle.mysql_bind_core.specs.Contents.{contents_of, has_fragment}
 use Rattle.mysql_bind_core.specs.Entries.{IsFragmentsFor, entries_of, pair_said}
@@ -32,14 +36,20 @@ IsClosed request query =
 abbrev pub IsSteadyIfWanted : Request → List ℕ → Type 0
 IsSteadyIfWanted request query = request.literals ≡ literals.Steady → IsSteady query
 
--- unless all queries are taken, the query is portable on servers and in a client
+-- unless all queries are taken, the query is portable on servers and in a client, with its names in
+-- lower case
 abbrev pub IsPortableIfWanted : Request → List ℕ → Type 0
 IsPortableIfWanted request query = request.portability ≡ portability.Portable →
-    OnTokens (mode_of request.literals) query IsPortableInClient
+    OnWideTokens (mode_of request.literals) query (λ ts. IsPortableInClient (lower_names ts))
+
+-- and the same of a text, in which no names are left
+abbrev pub IsTextPortableIfWanted : Request → List ℕ → Type 0
+IsTextPortableIfWanted request text = request.portability ≡ portability.Portable →
+    OnTokens (mode_of request.literals) text IsPortableInClient
 
 -- each place of the query has a name
 abbrev pub IsNamed : Request → List ℕ → Type 0
-IsNamed request query = OnTokens (mode_of request.literals) query (λ ts. marks ts ≡ 0)
+IsNamed request query = OnWideTokens (mode_of request.literals) query (λ ts. marks ts ≡ 0)
 
 -- the query is one that the request takes
 pub record IsTaken (request : Request) (query : List ℕ) : Type 0 where
@@ -49,11 +59,11 @@ pub record IsTaken (request : Request) (query : List ℕ) : Type 0 where
   pub is_named : IsNamed request query
 
 -- the text with the literals that are asked for, of a query with these tokens and what is given
-abbrev pub IsTextFor : Literals → Portability → List ℕ → List Token → Given → List ℕ → Type 0
-IsTextFor literals.Steady portability.Portable query ts given text =
-    IsAnywhereText query ts given text
-IsTextFor literals.Steady portability.Any query ts given text = IsSteadyText ts given text
-IsTextFor (literals.Plain mode) wanted query ts given text = IsBoundText mode ts given text
+abbrev pub IsTextFor : Literals → Portability → List Token → Given → List ℕ → Type 0
+IsTextFor literals.Steady portability.Portable ts given text =
+    IsWideAnywhereText ts given text
+IsTextFor literals.Steady portability.Any ts given text = IsSteadyText ts given text
+IsTextFor (literals.Plain mode) wanted ts given text = IsBoundText mode ts given text
 
 -- the text that is written for assignments that are all values
 pub record IsValuesText (request : Request) (query : List ℕ) (assignments : List Assignment)
@@ -64,8 +74,8 @@ pub record IsValuesText (request : Request) (query : List ℕ) (assignments : Li
   pub pairs_are : pairs_of assignments ≡ Some pairs
   pub given_is : given_of pairs ≡ Ok given
   -- and the text is that of the whole query and of what is given
-  pub bound : OnTokens (mode_of request.literals) query (λ ts.
-      IsTextFor request.literals request.portability query ts given text)
+  pub bound : OnWideTokens (mode_of request.literals) query (λ ts.
+      IsTextFor request.literals request.portability ts given text)
 
 -- the text that is written for assignments of which one is an exact number, a double, a name or a
 -- list
@@ -77,8 +87,8 @@ pub record IsFragmentsText (request : Request) (query : List ℕ) (assignments :
   pub contents_are : contents_of assignments ≡ Some (map pair_said pairs)
   pub entries_are : entries_of pairs ≡ Ok entries
   -- and the text is that of the whole query and of these fragments
-  pub bound : OnTokens (mode_of request.literals) query (λ ts.
-      IsFragmentsFor request.literals request.portability query ts (named entries) text)
+  pub bound : OnWideTokens (mode_of request.literals) query (λ ts.
+      IsFragmentsFor request.literals request.portability ts (named entries) text)
 
 -- the text that is written for these assignments
 pub data IsAssignedText (request : Request) (query : List ℕ) (assignments : List Assignment)
@@ -98,4 +108,4 @@ pub record IsWritten (request : Request) (query : List ℕ) (assignments : List 
   pub taken : IsTaken request query
   pub assigned : IsAssignedText request query assignments text
   -- and unless all queries are taken, the text itself is portable on servers and in a client
-  pub portable_text : IsPortableIfWanted request text
+  pub portable_text : IsTextPortableIfWanted request text

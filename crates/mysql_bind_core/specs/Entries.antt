@@ -6,7 +6,8 @@ use Rattle.mysql_named_params.specs.Tokens.{Token}
 use Rattle.mysql_fragments.specs.Expanded.{IsBoundFragments}
 use Rattle.mysql_fragments.specs.GivenFragments.{FragmentMap, GivenFragments}
 use Rattle.mysql_fragments.specs.declared.fragment.Fragment.{Fragment}
-use Rattle.mysql_fragments.specs.SteadyFragments.{IsAnywhereFragments, IsSteadyFragments}
+use Rattle.mysql_fragments.specs.SteadyFragments.{IsSteadyFragments}
+use Rattle.mysql_fragments.specs.WideSteadyFragments.{IsWideAnywhereFragments}
 use Rattle.mysql_bind_core.specs.Contents.{Content, said}
 use Rattle.mysql_bind_core.specs.declared.request.Literals.{Literals}
 use Rattle.mysql_bind_core.specs.declared.request.Literals.TheVariants as literals
@@ -37,10 +38,9 @@ abbrev pub entries_of : List (List ℕ × Fragment) → Entries
 entries_of pairs = fold with_fragment (Ok finite.empty) pairs
 
 -- the text with the literals that are asked for, of a query with these tokens and fragments
-abbrev pub IsFragmentsFor : Literals → Portability → List ℕ → List Token → GivenFragments →
-    List ℕ → Type 0
-IsFragmentsFor literals.Steady portability.Portable query ts given text =
-    IsAnywhereFragments query ts given text
-IsFragmentsFor literals.Steady portability.Any query ts given text = IsSteadyFragments ts given text
-IsFragmentsFor (literals.Plain mode) wanted query ts given text =
+abbrev pub IsFragmentsFor : Literals → Portability → List Token → GivenFragments → List ℕ → Type 0
+IsFragmentsFor literals.Steady portability.Portable ts given text =
+    IsWideAnywhereFragments ts given text
+IsFragmentsFor literals.Steady portability.Any ts given text = IsSteadyFragments ts given text
+IsFragmentsFor (literals.Plain mode) wanted ts given text =
     IsBoundFragments mode ts given text

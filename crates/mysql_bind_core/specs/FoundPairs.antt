@@ -2,7 +2,7 @@
 use Rattle.std.specs.Prelude.{◌≡◌, ◌++◌, ◌&&◌, ℕ, Bool, true, List, [], ◌∷◌, nat_eq, if◌then◌else◌, Option, None, Some, is_none, map, Ok}
 use Rattle.std.specs.Cmp.Lexicographic.{pointwise}
 use Rattle.mysql_values.specs.declared.value.Value.{Value}
-use Rattle.mysql_named_params.specs.Tokens.{OnTokens}
+use Rattle.mysql_named_params.specs.Reading.{OnWideTokens}
 use Rattle.mysql_params_core.specs.GivenValues.{Given}
 use Rattle.mysql_bind_core.specs.Assignments.{given_of}
 use Rattle.mysql_bind_core.specs.Bound.{IsTextFor}
@@ -30,6 +30,6 @@ pub record IsTextAppended (request : Request) (query : List ℕ) (pairs : List (
   pub given : Given
   pub given_is : given_of pairs ≡ Ok given
   pub text : List ℕ
-  pub bound : OnTokens (mode_of request.literals) query (λ ts.
-      IsTextFor request.literals request.portability query ts given text)
+  pub bound : OnWideTokens (mode_of request.literals) query (λ ts.
+      IsTextFor request.literals request.portability ts given text)
   pub bytes : after ≡ before ++ text

@@ -4,7 +4,7 @@ use Rattle.std.specs.Prelude.{◌≡◌, ◌<◌, ℕ, true, List, length, Optio
 use Rattle.std.specs.Option.{IfSome}
 use Rattle.std.specs.Global.{Vec}
 use Rattle.mysql_named_params.specs.NamesAndMarks.{names}
-use Rattle.mysql_named_params.specs.Tokens.{OnTokens}
+use Rattle.mysql_named_params.specs.Reading.{OnWideTokens}
 use Rattle.mysql_binding.specs.ParsedQuery.{QueryInMode}
 use Rattle.mysql_bind_core.specs.Bound.{IsTaken}
 use Rattle.mysql_bind_core.specs.Cells.{AreNumbersOf, are_distinct_names}
@@ -16,7 +16,7 @@ pub record HaveNumbers (query : QueryInMode) (columns : List (List ℕ)) (number
   pub some : 0 < length columns
   pub asked : 0 < length numbers
   pub distinct : are_distinct_names columns ≡ true
-  pub are : OnTokens query.mode query.query (λ ts. AreNumbersOf columns (names ts) numbers)
+  pub are : OnWideTokens query.mode query.query (λ ts. AreNumbersOf columns (names ts) numbers)
 
 -- the request takes the query, and its places have the numbers, if there are some
 pub record AreMatched (taken : RequestedQuery) (columns : List (List ℕ))

@@ -1,8 +1,10 @@
 -- Which refusal comes: the first that holds, in the order of `Failure`.
 use Rattle.std.specs.Prelude.{◌≡◌, ◌++◌, ◌≢◌, ℕ, true, false, List, map, Some, None, Result, Ok, Err, ⊤, Option}
 use Rattle.mysql_values.specs.declared.value.Value.{Value}
+use Rattle.mysql_named_params.specs.LoweredNames.{have_capitals, lower_names}
+use Rattle.mysql_named_params.specs.NamesAndMarks.{marks, names}
+use Rattle.mysql_named_params.specs.Reading.{OnWideTokens}
 use Rattle.mysql_named_params.specs.Tokens.{Token, OnTokens}
-use Rattle.mysql_named_params.specs.NamesAndMarks.{marks}
 use Rattle.mysql_portable.specs.Steady.{first_unsteady}
 use Rattle.mysql_portable.specs.FirstUnportable.{first_unportable}
 use Rattle.mysql_portable.specs.FirstUnportableInClient.{first_unportable_in_client}
@@ -15,7 +17,7 @@ use Rattle.mysql_steady_text.specs.SteadyTextErrors.{IsSteadyRefusal}
 use Rattle.mysql_fragments.specs.FragmentErrors as fragments
 use Rattle.mysql_fragments.specs.GivenFragments.{FragmentMap, GivenFragments, named}
 use Rattle.mysql_fragments.specs.declared.fragment.Fragment.{Fragment}
-use Rattle.mysql_fragments.specs.SteadyFragmentsErrors as steady
+use Rattle.mysql_fragments.specs.WideSteadyFragments as steady
 use Rattle.mysql_bind_core.specs.Assignments.{given_of, pairs_of}
 use Rattle.mysql_bind_core.specs.Bound.{IsAssignedText, IsClosed, IsSteadyIfWanted, IsPortableIfWanted, IsTaken}
 use Rattle.mysql_bind_core.specs.Contents.{contents_of, has_fragment}
@@ -43,12 +45,21 @@ IsQueryRefusal request query (failure.Unsteady at) =
 IsQueryRefusal request query (failure.Unportable found) =
     IsClosed request query × IsSteadyIfWanted request query
     × (request.portability ≡ portability.Portable)
-    × OnTokens (mode_of request.literals) query (λ ts. Some found ≡ first_unportable_in_client ts)
+    × OnWideTokens (mode_of request.literals) query (λ ts.
+    Some found ≡ first_unportable_in_client (lower_names ts))
 IsQueryRefusal request query failure.Marks =
     IsClosed request query × IsSteadyIfWanted request query × IsPortableIfWanted request query
-    × OnTokens (mode_of request.literals) query (λ ts. marks ts ≢ 0)
+    × OnWideTokens (mode_of request.literals) query (λ ts. marks ts ≢ 0)
 IsQueryRefusal request query (failure.Memory error) = ⊤
 IsQueryRefusal request query why = ⊥
+
+-- whether the query is portable is asked of a copy of it: it has to be, it isn't refused before,
+-- and a name has a capital
+abbrev pub IsCopied : Request → List ℕ → Type 0
+IsCopied request query =
+    IsClosed request query × IsSteadyIfWanted request query
+    × (request.portability ≡ portability.Portable)
+    × OnWideTokens (mode_of request.literals) query (λ ts. have_capitals (names ts) ≡ true)
 
 -- the failure for which an error of pairs stands
 abbrev pub pairs_failure : PairsError → Failure
@@ -86,7 +97,7 @@ IsContentsRefusal assignments why = (pairs : List (List ℕ × Fragment))
 
 -- the first construct that steady binding looks for
 abbrev pub looked_for : Portability → List Token → Option Unportable
-looked_for portability.Portable ts = first_unportable ts
+looked_for portability.Portable ts = first_unportable (lower_names ts)
 looked_for portability.Any ts = None
 
 -- why what is given can't be bound, in the literals that are asked for, into a query with these
@@ -104,7 +115,7 @@ abbrev pub IsFragmentsRefusal : Literals → Portability → List ℕ → List T
 IsFragmentsRefusal (literals.Plain mode) wanted query ts given (failure.Fragments error) =
     fragments.IsCauseOrMemory (fragments.first_cause true ts given) error
 IsFragmentsRefusal literals.Steady wanted query ts given (failure.SteadyFragments error) =
-    steady.IsSteadyRefusal query (looked_for wanted ts) ts given error
+    steady.IsWideSteadyRefusal query (looked_for wanted ts) ts given error
 IsFragmentsRefusal asked wanted query ts given why = ⊥
 
 -- why nothing is written for assignments that are all values: they give nothing, or what they give
@@ -115,7 +126,7 @@ pub data IsValuesRefusal (request : Request) (query : List ℕ) (assignments : L
       IsValuesRefusal request query assignments why
   of_text : (pairs : List (List ℕ × Value)) → (given : Given) →
       pairs_of assignments ≡ Some pairs → given_of pairs ≡ Ok given →
-      OnTokens (mode_of request.literals) query (λ ts.
+      OnWideTokens (mode_of request.literals) query (λ ts.
       IsTextRefusal request.literals request.portability query ts given why) →
       IsValuesRefusal request query assignments why
 
@@ -126,7 +137,7 @@ pub data IsFragmentsTextRefusal (request : Request) (query : List ℕ)
       IsFragmentsTextRefusal request query assignments why
   of_named : (pairs : List (List ℕ × Fragment)) → (entries : FragmentMap) →
       contents_of assignments ≡ Some (map pair_said pairs) → entries_of pairs ≡ Ok entries →
-      OnTokens (mode_of request.literals) query (λ ts.
+      OnWideTokens (mode_of request.literals) query (λ ts.
       IsFragmentsRefusal request.literals request.portability query ts (named entries) why) →
       IsFragmentsTextRefusal request query assignments why
 

@@ -6,9 +6,9 @@ use Rattle.mysql_binding.specs.BoundStatements.{statements_with_literals}
 use Rattle.mysql_binding.specs.Pieces.{pieces, joined_text}
 use Rattle.mysql_binding.specs.Replaced.{AreTokensOf, with_literal_tokens}
 
--- A client reads a query with the tokens `ts` as `us`, and the text that is bound to it as `vs`:
--- those are `us`, with the tokens of what the text has in a place for each name, and so is each
--- statement of the text the statement of the query.
+-- A client reads a query with the tokens `ts`, and its names in lower case, as `us`, and the text
+-- that is bound to it as `vs`: those are `us`, with the tokens of what the text has in a place for
+-- each name, and so is each statement of the text the statement of the query.
 pub data AreReplaced (mode : Bool) (ts : List Token) (text : List ℕ) (us vs : List Token)
     : Type 0 where
   -- one literal stands in each place

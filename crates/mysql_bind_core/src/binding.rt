@@ -1,9 +1,9 @@
 //! Binding and writing in one call: the bound text of a query, or a refusal.
-ghost use Rattle.std.specs.Prelude.{◌≡◌, ◌≢◌, ℕ, List, IfOk, IfErr, OnOk, IsErrOf, alloc_error};
+ghost use Rattle.std.specs.Prelude.{◌≡◌, ◌≢◌, ◌⊎◌, ℕ, List, IfOk, IfErr, OnOk, IsErrOf, alloc_error};
 ghost use Rattle.std.specs.Io.KnownBytes.{Appends};
 ghost use Rattle.mysql_io.specs.ReadersAndWriters.{AppendsPrefix};
 ghost use Rattle.mysql_bind_core.specs.Bound.{IsTaken, IsWritten};
-ghost use Rattle.mysql_bind_core.specs.Refusals.{IsRefusal};
+ghost use Rattle.mysql_bind_core.specs.Refusals.{IsCopied, IsRefusal};
 
 use crate::assignment::Assignment;
 use crate::failure::Failure;
@@ -12,8 +12,9 @@ use crate::taken::TakenQuery;
 use std::alloc::Global;
 use std::io::Write;
 
-/// The query with the literals of the assigned values in the places of its names, or the refusal.
-/// It is never `Write`, and `Memory` only if the request takes the query.
+/// The query with the literals of the assigned values in the places of its wide names, or the
+/// refusal. It is never `Write`, and `Memory` only if the request takes the query, or in place of
+/// `Unportable` and `Marks` if a name has a capital.
 pub fn bound_text(
     alloc: Global,
     query: &[u8],
@@ -24,19 +25,21 @@ pub fn bound_text(
         IsWritten request query.now assignments.now text.items) }
     ensures refused { IfErr result (IsRefusal request query.now assignments.now) }
     ensures only { IfErr result (λ e. e ≢ Failure.Write) }
-    ensures memory { IsErrOf result (Failure.Memory alloc_error) → IsTaken request query.now }
+    ensures memory { IsErrOf result (Failure.Memory alloc_error) →
+        IsTaken request query.now ⊎ IsCopied request query.now }
 {
     let taken = TakenQuery::new(alloc, query, request)?;
     taken.text(alloc, assignments)
 }
 
-/// Binds the assigned values into the query, and writes the whole text, or refuses.
+/// Binds the assigned values to the wide names of the query, and writes the whole text, or refuses.
 ///
 /// Whatever it writes is the bound text of the whole query, in the literals that are asked for, and
 /// for exactly the values that the bytes of the assignments mean. A query and its text are refused
 /// unless every server and the clients read them alike, except if all queries are asked for.
 /// Nothing was written with any refusal except `Write`. Out of memory may come in place of any
-/// other result, if the request takes the query.
+/// other result, if the request takes the query. It may come in place of `Unportable` and `Marks`,
+/// if a name has a capital.
 pub fn write_bound<W: Write>(
     alloc: Global,
     query: &[u8],
@@ -50,8 +53,9 @@ pub fn write_bound<W: Write>(
     ensures refused { IfErr result (λ e. e ≢ Failure.Write →
         IsRefusal request query.now assignments.now e) }
 
-    // The refusal of a query is never out of memory.
-    ensures memory { IsErrOf result (Failure.Memory alloc_error) → IsTaken request query.now }
+    // The refusal of a query is out of memory only if the query is copied.
+    ensures memory { IsErrOf result (Failure.Memory alloc_error) →
+        IsTaken request query.now ⊎ IsCopied request query.now }
 
     // A refusal has written nothing.
     ensures unwritten { IfErr result (λ e. e ≢ Failure.Write → output.new ≡ output.old) }

@@ -1,12 +1,12 @@
 //! Why a request doesn't take a query, whatever is assigned to its names: at first, that it ends
 //! within a token, so that what follows it would stand in it.
-ghost use Rattle.std.specs.Prelude.{◌≡◌, ◌≢◌, ◌++◌, IfErr, OnOk, alloc_error, ℕ, Some, None, [], length, true, false, IsTrue};
+ghost use Rattle.std.specs.Prelude.{◌≡◌, ◌≢◌, ◌++◌, IfErr, IsErrOf, OnOk, alloc_error, ℕ, Some, None, [], length, true, false, IsTrue};
 ghost use Rattle.mysql_sql_text.specs.StringUnits.{is_escape};
 ghost use Rattle.mysql_named_params.specs.Bytes.{is_string_quote};
 ghost use Rattle.mysql_named_params.specs.Tokens.{OnTokens, IsStringTail};
-ghost use Rattle.mysql_named_params.specs.Reading.{grammar_reading};
+ghost use Rattle.mysql_named_params.specs.Reading.{wide_reading};
 ghost use Rattle.mysql_bind_core.specs.Bound.{IsClosed, IsNamed, IsPortableIfWanted, IsSteadyIfWanted, IsTaken};
-ghost use Rattle.mysql_bind_core.specs.Refusals.{IsQueryRefusal};
+ghost use Rattle.mysql_bind_core.specs.Refusals.{IsCopied, IsQueryRefusal};
 ghost use Rattle.mysql_bind_core.specs.Requests.{mode_of};
 ghost use Rattle.mysql_bind_core.specs.QueryEnd.{end, long_end, long_end_from};
 
@@ -15,26 +15,33 @@ use crate::request::{Literals, Portability, Request};
 use mysql_binding::{SurveyedQuery, place_after};
 use mysql_named_params::tokens::first_token;
 use mysql_portable::clear::is_clear_in_client;
-use mysql_portable::client::first_unportable_in_client;
 use mysql_portable::steady::first_unsteady;
+use mysql_portable::wide::first_unportable_in_client_wide;
+use std::alloc::Global;
 
-// Whether the request takes a query that is surveyed in its mode.
-pub(crate) fn check_surveyed(query: &SurveyedQuery<'_>, request: Request) -> Result<(), Failure>
-    requires reading { query.now.reading ≡ grammar_reading (mode_of request.literals) }
+// Whether the request takes a query that is surveyed in its mode, by wide names. It asks for memory
+// only for a copy of a query with a capital in a name.
+pub(crate) fn check_surveyed(
+    alloc: Global,
+    query: &SurveyedQuery<'_>,
+    request: Request,
+) -> Result<(), Failure>
+    requires reading { query.now.reading ≡ wide_reading (mode_of request.literals) }
     ensures taken { OnOk result (IsTaken request query.now.query.now) }
     ensures refused { IfErr result (IsQueryRefusal request query.now.query.now) }
     ensures only { IfErr result (λ e. e ≢ Failure.Write) }
-    ensures without_memory { IfErr result (λ e. e ≢ Failure.Memory alloc_error) }
+    ensures memory { IsErrOf result (Failure.Memory alloc_error) →
+        IsCopied request query.now.query.now }
 {
     check_end(query, request)?;
-    check_reading(query.query, request)?;
+    check_reading(alloc, query.query, request)?;
     check_named(query, request)?;
     Ok(())
 }
 
 // Whether the query doesn't end within a token.
 fn check_end(query: &SurveyedQuery<'_>, request: Request) -> Result<(), Failure>
-    requires reading { query.now.reading ≡ grammar_reading (mode_of request.literals) }
+    requires reading { query.now.reading ≡ wide_reading (mode_of request.literals) }
     ensures closed { OnOk result (IsClosed request query.now.query.now) }
     ensures refused { IfErr result (IsQueryRefusal request query.now.query.now) }
     ensures only { IfErr result (λ e. e ≢ Failure.Write) }
@@ -48,13 +55,13 @@ fn check_end(query: &SurveyedQuery<'_>, request: Request) -> Result<(), Failure>
 
 // Whether the query is steady and portable, if it has to be. Most that have to be both pass by one
 // quick walk.
-fn check_reading(query: &[u8], request: Request) -> Result<(), Failure>
+fn check_reading(alloc: Global, query: &[u8], request: Request) -> Result<(), Failure>
     requires { IsClosed request query.now }
     ensures steady { OnOk result (IsSteadyIfWanted request query.now) }
     ensures portable { OnOk result (IsPortableIfWanted request query.now) }
     ensures refused { IfErr result (IsQueryRefusal request query.now) }
     ensures only { IfErr result (λ e. e ≢ Failure.Write) }
-    ensures without_memory { IfErr result (λ e. e ≢ Failure.Memory alloc_error) }
+    ensures memory { IsErrOf result (Failure.Memory alloc_error) → IsCopied request query.now }
 {
     match request.portability {
         Portability::Any => check_steady(query, request),
@@ -63,7 +70,7 @@ fn check_reading(query: &[u8], request: Request) -> Result<(), Failure>
                 return Ok(());
             }
             check_steady(query, request)?;
-            check_portable(query, request)
+            check_portable(alloc, query, request)
         }
     }
 }
@@ -86,18 +93,19 @@ fn check_steady(query: &[u8], request: Request) -> Result<(), Failure>
 }
 
 // Whether the query is portable in a client, if it has to be.
-fn check_portable(query: &[u8], request: Request) -> Result<(), Failure>
+fn check_portable(alloc: Global, query: &[u8], request: Request) -> Result<(), Failure>
     requires closed { IsClosed request query.now }
     requires steady { IsSteadyIfWanted request query.now }
     ensures portable { OnOk result (IsPortableIfWanted request query.now) }
     ensures refused { IfErr result (IsQueryRefusal request query.now) }
     ensures only { IfErr result (λ e. e ≢ Failure.Write) }
-    ensures without_memory { IfErr result (λ e. e ≢ Failure.Memory alloc_error) }
+    ensures memory { IsErrOf result (Failure.Memory alloc_error) → IsCopied request query.now }
 {
     match request.portability {
         Portability::Any => Ok(()),
         Portability::Portable => {
-            match first_unportable_in_client(query, request.literals.no_backslash_escape()) {
+            let mode = request.literals.no_backslash_escape();
+            match first_unportable_in_client_wide(alloc, query, mode)? {
                 None => Ok(()),
                 Some(found) => Err(Failure::Unportable(found)),
             }
@@ -107,7 +115,7 @@ fn check_portable(query: &[u8], request: Request) -> Result<(), Failure>
 
 // Whether each place of the query has a name.
 fn check_named(query: &SurveyedQuery<'_>, request: Request) -> Result<(), Failure>
-    requires reading { query.now.reading ≡ grammar_reading (mode_of request.literals) }
+    requires reading { query.now.reading ≡ wide_reading (mode_of request.literals) }
     requires closed { IsClosed request query.now.query.now }
     requires steady { IsSteadyIfWanted request query.now.query.now }
     requires portable { IsPortableIfWanted request query.now.query.now }
@@ -124,11 +132,10 @@ fn check_named(query: &SurveyedQuery<'_>, request: Request) -> Result<(), Failur
 }
 
 // Where the query's last token begins, if it is open: a string, a quoted identifier or a block
-// comment without its end. No place is open, so only what follows the last place that is known is
-// looked at. The bytes of the last token tell, so no memory is needed.
+// comment without its end. No place is open, so only what follows a known place is looked at: the
+// last place that isn't at the query's end. The bytes of the last token tell, so no memory is
+// needed.
 pub(crate) fn open_end(surveyed: &SurveyedQuery<'_>) -> Option<usize>
-    requires { surveyed.now.reading
-        ≡ grammar_reading surveyed.now.reading.no_backslash_escape }
     ensures { OnTokens surveyed.now.reading.no_backslash_escape (surveyed.now.query.now ++ end)
         (λ ts. result ≡ long_end ts) }
 {
@@ -142,7 +149,7 @@ pub(crate) fn open_end(surveyed: &SurveyedQuery<'_>) -> Option<usize>
         };
         let (_, _, after) = found.cut(rest);
         if after.is_empty() {
-            return None;
+            break;
         }
         rest = after;
         passed += 1;

@@ -1,7 +1,7 @@
 //! The text of a query and of assignments of which one is an exact number, a double, a name or a
 //! list.
 ghost use Rattle.std.specs.Prelude.{◌≡◌, ◌≢◌, false, IfOk, IfErr};
-ghost use Rattle.mysql_named_params.specs.Tokens.{OnTokens};
+ghost use Rattle.mysql_named_params.specs.Reading.{OnWideTokens};
 ghost use Rattle.mysql_fragments.specs.GivenFragments.{given_fragments};
 ghost use Rattle.mysql_bind_core.specs.Bound.{IsFragmentsText};
 ghost use Rattle.mysql_bind_core.specs.Entries.{IsFragmentsFor};
@@ -12,7 +12,8 @@ use crate::assignment::{Assignment, assigned_fragments};
 use crate::failure::Failure;
 use crate::request::{Literals, Portability, Request};
 use mysql_fragments::{
-    Fragments, bind_fragments_anywhere, bind_fragments_in, bind_fragments_in_any_mode,
+    Fragments, bind_wide_fragments_anywhere, bind_wide_fragments_in,
+    bind_wide_fragments_in_any_mode,
 };
 use std::alloc::Global;
 
@@ -39,10 +40,10 @@ fn named_text(
     fragments: &Fragments,
     request: Request,
 ) -> Result<Vec<u8>, Failure>
-    ensures bound { IfOk result (λ text. OnTokens (mode_of request.literals) query.now (λ ts.
-        IsFragmentsFor request.literals request.portability query.now ts
+    ensures bound { IfOk result (λ text. OnWideTokens (mode_of request.literals) query.now (λ ts.
+        IsFragmentsFor request.literals request.portability ts
         (given_fragments fragments.now) text.items)) }
-    ensures refused { IfErr result (λ e. OnTokens (mode_of request.literals) query.now (λ ts.
+    ensures refused { IfErr result (λ e. OnWideTokens (mode_of request.literals) query.now (λ ts.
         IsFragmentsRefusal request.literals request.portability query.now ts
         (given_fragments fragments.now) e)) }
 {
@@ -71,36 +72,36 @@ fn plain_text(
     no_backslash_escape: bool,
     portability: Portability,
 ) -> Result<Vec<u8>, Failure>
-    ensures bound { IfOk result (λ text. OnTokens no_backslash_escape query.now (λ ts.
-        IsFragmentsFor (Literals.Plain no_backslash_escape) portability query.now ts
+    ensures bound { IfOk result (λ text. OnWideTokens no_backslash_escape query.now (λ ts.
+        IsFragmentsFor (Literals.Plain no_backslash_escape) portability ts
         (given_fragments fragments.now) text.items)) }
-    ensures refused { IfErr result (λ e. OnTokens no_backslash_escape query.now (λ ts.
+    ensures refused { IfErr result (λ e. OnWideTokens no_backslash_escape query.now (λ ts.
         IsFragmentsRefusal (Literals.Plain no_backslash_escape) portability query.now ts
         (given_fragments fragments.now) e)) }
 {
-    Ok(bind_fragments_in(alloc, query, fragments, no_backslash_escape)?)
+    Ok(bind_wide_fragments_in(alloc, query, fragments, no_backslash_escape)?)
 }
 
 // The text with steady literals, of a portable query.
 fn anywhere_text(alloc: Global, query: &[u8], fragments: &Fragments) -> Result<Vec<u8>, Failure>
-    ensures bound { IfOk result (λ text. OnTokens false query.now (λ ts.
-        IsFragmentsFor Literals.Steady Portability.Portable query.now ts
+    ensures bound { IfOk result (λ text. OnWideTokens false query.now (λ ts.
+        IsFragmentsFor Literals.Steady Portability.Portable ts
         (given_fragments fragments.now) text.items)) }
-    ensures refused { IfErr result (λ e. OnTokens false query.now (λ ts.
+    ensures refused { IfErr result (λ e. OnWideTokens false query.now (λ ts.
         IsFragmentsRefusal Literals.Steady Portability.Portable query.now ts
         (given_fragments fragments.now) e)) }
 {
-    Ok(bind_fragments_anywhere(alloc, query, fragments)?)
+    Ok(bind_wide_fragments_anywhere(alloc, query, fragments)?)
 }
 
 // The text with steady literals, of any query.
 fn any_mode_text(alloc: Global, query: &[u8], fragments: &Fragments) -> Result<Vec<u8>, Failure>
-    ensures bound { IfOk result (λ text. OnTokens false query.now (λ ts.
-        IsFragmentsFor Literals.Steady Portability.Any query.now ts
+    ensures bound { IfOk result (λ text. OnWideTokens false query.now (λ ts.
+        IsFragmentsFor Literals.Steady Portability.Any ts
         (given_fragments fragments.now) text.items)) }
-    ensures refused { IfErr result (λ e. OnTokens false query.now (λ ts.
+    ensures refused { IfErr result (λ e. OnWideTokens false query.now (λ ts.
         IsFragmentsRefusal Literals.Steady Portability.Any query.now ts
         (given_fragments fragments.now) e)) }
 {
-    Ok(bind_fragments_in_any_mode(alloc, query, fragments)?)
+    Ok(bind_wide_fragments_in_any_mode(alloc, query, fragments)?)
 }

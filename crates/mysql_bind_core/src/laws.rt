@@ -1,10 +1,13 @@
 //! Laws of what is written. They do nothing: each is called for what it ensures.
 ghost use Rattle.std.specs.Prelude.{◌≡◌, ◌<◌, ◌^◌, ℕ, Bool, false, List, All, length};
-ghost use Rattle.mysql_named_params.specs.Tokens.{Token, OnTokens};
+ghost use Rattle.mysql_named_params.specs.LoweredNames.{have_capitals, lower_names};
+ghost use Rattle.mysql_named_params.specs.Places.{names};
+ghost use Rattle.mysql_named_params.specs.Reading.{OnWideTokens};
+ghost use Rattle.mysql_named_params.specs.Tokens.{Token, text_of};
 ghost use Rattle.mysql_portable.specs.Quiet.{DecidesWithin, IsHonest};
 ghost use Rattle.mysql_portable.specs.Client.{Client, IsReadBy};
 ghost use Rattle.mysql_portable.specs.Statements.{statements};
-ghost use Rattle.mysql_bind_core.specs.Bound.{IsAssignedText, IsPortableIfWanted, IsTaken, IsWritten};
+ghost use Rattle.mysql_bind_core.specs.Bound.{IsAssignedText, IsTextPortableIfWanted, IsTaken, IsWritten};
 ghost use Rattle.mysql_bind_core.specs.Cells.{AreAssigned};
 ghost use Rattle.mysql_bind_core.specs.Contents.{has_fragment};
 ghost use Rattle.mysql_bind_core.specs.Requests.{mode_of};
@@ -17,8 +20,13 @@ ghost use Rattle.mysql_bind_core.specs.declared.request.Request.{Request};
 mod scripts;
 
 use mysql_binding::laws::{bound_texts_are_sent, bound_texts_in_clients};
-use mysql_fragments::laws::{bound_fragments_in_clients, steady_fragments_in_clients};
-use mysql_steady_text::laws::{bound_steady_texts_are_sent, bound_steady_texts_in_clients};
+use mysql_fragments::laws::{
+    bound_fragments_in_clients, fragments_in_clients, fragments_on_servers,
+    steady_fragments_in_clients,
+};
+use mysql_steady_text::laws::{
+    bound_steady_texts_in_clients, steady_texts_are_sent, steady_texts_in_clients,
+};
 pub use scripts::{
     records_make_scripts, scripts_in_clients, tables_make_scripts, tokens_of_scripts,
 };
@@ -26,29 +34,38 @@ use std::alloc::Global;
 
 /// Unless all queries are taken, a client that keeps comments cuts what is written into as many
 /// statements as the query has, whatever the assignments say (`count`). If it decides about a quiet
-/// comment only by the comment, it reads in the text the tokens that it reads in the query, with
-/// those of what stands in each place, statement by statement (`tokens`).
+/// comment only by the comment, the text has the tokens that it reads in the query with its names
+/// in lower case. What stands in each place takes the name's, statement by statement (`tokens`).
 pub fn written_in_clients()
     ensures count { (client : Client) (request : Request) (query text : List ℕ)
         (assignments : List Assignment) (vs : List Token) → IsHonest client.reader →
         request.portability ≡ portability.Portable → IsWritten request query assignments text →
         IsReadBy client (mode_of request.literals) text vs →
-        OnTokens (mode_of request.literals) query (λ ts.
+        OnWideTokens (mode_of request.literals) query (λ ts.
         length (statements vs) ≡ length (statements ts)) }
     ensures tokens { (client : Client) (request : Request) (query text : List ℕ)
         (assignments : List Assignment) (us : List Token) → IsHonest client.reader →
         DecidesWithin client.reader → request.portability ≡ portability.Portable →
         IsWritten request query assignments text →
-        IsReadBy client (mode_of request.literals) query us →
-        OnTokens (mode_of request.literals) query (λ ts. (vs : List Token)
-        × IsReadBy client (mode_of request.literals) text vs
+        OnWideTokens (mode_of request.literals) query (λ ts.
+        IsReadBy client (mode_of request.literals) (text_of (lower_names ts)) us →
+        (vs : List Token) × IsReadBy client (mode_of request.literals) text vs
         × AreReplaced (mode_of request.literals) ts text us vs) }
 {
     bound_texts_in_clients();
+    fragments_on_servers();
+    fragments_in_clients();
     bound_fragments_in_clients();
+    steady_texts_in_clients();
     bound_steady_texts_in_clients();
     steady_fragments_in_clients();
 }
+
+/// Names without capitals stay in lower case: such a query has the tokens that it has by the names
+/// of the grammar.
+pub fn lower_names_stay()
+    ensures { (ts : List Token) → have_capitals (names ts) ≡ false → lower_names ts ≡ ts }
+{}
 
 /// For all names and cells whose bytes fit into memory, as those of slices do, there are
 /// assignments that say what the cells do under the names. So what is promised of a row for all of
@@ -68,8 +85,8 @@ pub(crate) fn values_are_sent()
     ensures { (request : Request) (query text : List ℕ) (assignments : List Assignment) →
         has_fragment assignments ≡ false → mode_of request.literals ≡ false →
         IsTaken request query → IsAssignedText request query assignments text →
-        IsPortableIfWanted request text }
+        IsTextPortableIfWanted request text }
 {
     bound_texts_are_sent();
-    bound_steady_texts_are_sent();
+    steady_texts_are_sent();
 }

@@ -2,7 +2,8 @@
 //! and writes the bound text whole, or refuses and writes nothing.
 //!
 //! [`write_bound`] is the call; `specs/Bound.antt` says what it promises of the text, and
-//! `specs/Refusals.antt` which refusal comes.
+//! `specs/Refusals.antt` which refusal comes. Names may have capitals, as by
+//! [`bind_wide`](mysql_binding::bind_wide).
 //!
 //! [`write_rows`] binds one query to row after row, and writes the script of them;
 //! `specs/Scripts.antt` says what it promises of the script.

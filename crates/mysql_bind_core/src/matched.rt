@@ -3,7 +3,7 @@
 ghost use Rattle.std.specs.Prelude.{◌≡◌, ◌++◌, ◌<◌, ℕ, false, true, List, length, map, Some, IfOk, IfErr, IfSome, IsTrue, IsFalse, OnErr, OnOk};
 ghost use Rattle.std.specs.List.{slice_get};
 ghost use Rattle.mysql_values.specs.BorrowedValue.{owned_values};
-ghost use Rattle.mysql_named_params.specs.Tokens.{OnTokens};
+ghost use Rattle.mysql_named_params.specs.Reading.{OnWideTokens};
 ghost use Rattle.mysql_named_params.specs.Places.{names};
 ghost use Rattle.mysql_params_core.specs.Referents.{referents};
 ghost use Rattle.mysql_bind_core.specs.Bound.{IsTaken};
@@ -19,7 +19,7 @@ use crate::failure::Failure;
 use crate::laws::values_are_sent;
 use crate::request::Request;
 use crate::taken::{Attempt, TakenQuery, found_in_text};
-use mysql_binding::ParsedQuery;
+use mysql_binding::WideQuery;
 use mysql_params_core::params::NamedPairs;
 use mysql_values::value::ValueRef;
 use std::alloc::{AllocError, Global};
@@ -239,7 +239,7 @@ fn placed_values<'v>(
 // has a column, and no two columns have one name.
 fn column_numbers(
     alloc: Global,
-    query: &ParsedQuery<'_>,
+    query: &WideQuery<'_>,
     columns: &[&[u8]],
 ) -> Result<Option<Vec<usize>>, AllocError>
     ensures distinct { IfOk result (λ found. IfSome found (λ numbers.
@@ -247,7 +247,7 @@ fn column_numbers(
     ensures some { IfOk result (λ found. IfSome found (λ numbers. 0 < length columns.now)) }
     ensures asked { IfOk result (λ found. IfSome found (λ numbers. 0 < length numbers.items)) }
     ensures numbers { IfOk result (λ found. IfSome found (λ numbers.
-        OnTokens query.now.mode query.now.query (λ ts.
+        OnWideTokens query.now.mode query.now.query (λ ts.
         AreNumbersOf (referents columns.now) (names ts) numbers.items))) }
 {
     let Ok(names) = query.names(alloc) else {

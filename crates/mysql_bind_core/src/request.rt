@@ -6,9 +6,9 @@ ghost use Rattle.mysql_bind_core.specs.Requests.{mode_of};
 #[derive(Debug, Clone, Copy, PartialEq, Eq)]
 pub enum Literals {
     /// So that no mode and no character set of a connection reads the text otherwise
-    /// ([`bind_text_anywhere`](mysql_steady_text::bind_text_anywhere)).
+    /// ([`bind_wide_anywhere`](mysql_steady_text::bind_wide_anywhere)).
     Steady,
-    /// For a mode of the server ([`bind_text_in`](mysql_binding::bind_text_in)).
+    /// For a mode of the server ([`bind_wide_in`](mysql_binding::bind_wide_in)).
     Plain {
         /// Whether the connection's `sql_mode` has `NO_BACKSLASH_ESCAPES`.
         no_backslash_escape: bool,

@@ -1,6 +1,6 @@
 //! The statements of rows, one after another.
 ghost use Rattle.std.specs.Prelude.{◌≡◌, ◌++◌, ℕ, List, take, IfErr, OnOk, OnErr};
-ghost use Rattle.mysql_named_params.specs.Tokens.{OnTokens};
+ghost use Rattle.mysql_named_params.specs.Reading.{OnWideTokens};
 ghost use Rattle.mysql_named_params.specs.Places.{names};
 ghost use Rattle.mysql_params_core.specs.Referents.{referents};
 ghost use Rattle.mysql_bind_core.specs.Bound.{IsWritten};
@@ -57,7 +57,7 @@ fn append_statement(
     assignments: &[Assignment],
     script: &mut Vec<u8>,
 ) -> Result<(), Failure>
-    requires { OnTokens (mode_of query.now.request.literals) query.now.query (λ ts.
+    requires { OnWideTokens (mode_of query.now.request.literals) query.now.query (λ ts.
         referents query_names.now ≡ names ts) }
     ensures bound { OnOk result ((text : List ℕ)
         × IsWritten query.now.request query.now.query assignments.now text

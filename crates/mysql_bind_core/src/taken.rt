@@ -1,13 +1,13 @@
 //! Queries that a request takes. What is found out of a query before values are looked at is found
 //! out once, and handed on. The text of such a query has its assignments, in the literals that are
 //! asked for, and is written or refused whole.
-ghost use Rattle.std.specs.Prelude.{◌≡◌, ◌≢◌, IfErr, IfOk, IsErrOf, OnOk, alloc_error, ℕ, List, Some, None, Ok, map, IfSome};
+ghost use Rattle.std.specs.Prelude.{◌≡◌, ◌≢◌, ◌⊎◌, IfErr, IfOk, IsErrOf, OnOk, alloc_error, ℕ, List, Some, None, Ok, map, IfSome};
 ghost use Rattle.std.specs.Io.KnownBytes.{Appends};
 ghost use Rattle.mysql_io.specs.ReadersAndWriters.{AppendsPrefix};
 ghost use Rattle.mysql_params_core.specs.GivenBorrowed.{by_borrowed, given_by_borrowed};
 ghost use Rattle.mysql_query_core.specs.WordErrors.{seen_pair};
-ghost use Rattle.mysql_bind_core.specs.Bound.{IsTaken, IsAssignedText, IsPortableIfWanted, IsValuesText, IsWritten};
-ghost use Rattle.mysql_bind_core.specs.Refusals.{IsQueryRefusal, IsFoundInText, IsMadeRefusal, IsRefusal, IsValuesRefusal};
+ghost use Rattle.mysql_bind_core.specs.Bound.{IsTaken, IsAssignedText, IsTextPortableIfWanted, IsValuesText, IsWritten};
+ghost use Rattle.mysql_bind_core.specs.Refusals.{IsCopied, IsQueryRefusal, IsFoundInText, IsMadeRefusal, IsRefusal, IsValuesRefusal};
 ghost use Rattle.mysql_bind_core.specs.Requests.{mode_of};
 ghost use Rattle.mysql_bind_core.specs.Assignments.{given_of, pairs_of};
 
@@ -20,9 +20,7 @@ use crate::fragments_text::fragments_text;
 use crate::laws::values_are_sent;
 use crate::request::{Literals, Portability, Request};
 pub(crate) use appended::Attempt;
-use mysql_binding::{
-    KEPT_PLACES, NO_PLACE, ParsedQuery, PlainForm, SurveyedQuery, bind_surveyed_as,
-};
+use mysql_binding::{KEPT_PLACES, NO_PLACE, PlainForm, SurveyedQuery, WideQuery, bind_surveyed_as};
 use mysql_io::readers_and_writers::write_whole;
 use mysql_named_params::places::Reading;
 use mysql_params_core::params::{BorrowedParams, NamedPairs};
@@ -38,7 +36,7 @@ use std::marker::Model;
 /// bound without a further walk.
 #[derive(Debug, Drop)]
 pub struct TakenQuery<'q> {
-    parsed: ParsedQuery<'q>,
+    parsed: WideQuery<'q>,
     request: Request,
 }
 
@@ -57,23 +55,25 @@ impl<'q> Model for TakenQuery<'q> {
 
 impl<'q> TakenQuery<'q> {
     /// The query, if the request takes it: else `Open`, `Unsteady`, `Unportable` or `Marks`, as
-    /// [`check_query`] has it. `Memory` comes only if the request takes the query.
+    /// [`check_query`] has it. `Memory` comes only if the request takes the query, or if a name has
+    /// a capital, in place of `Unportable` and `Marks`.
     pub fn new(alloc: Global, query: &'q [u8], request: Request) -> Result<TakenQuery<'q>, Failure>
         ensures query { IfOk result (λ t. t ≡ record { query = query.now; request = request }) }
         ensures taken { IfOk result (λ t. IsTaken request query.now) }
         ensures refused { IfErr result (IsQueryRefusal request query.now) }
         ensures only { IfErr result (λ e. e ≢ Failure.Write) }
-        ensures memory { IsErrOf result (Failure.Memory alloc_error) → IsTaken request query.now }
+        ensures memory { IsErrOf result (Failure.Memory alloc_error) →
+            IsTaken request query.now ⊎ IsCopied request query.now }
     {
         let mode = request.literals.no_backslash_escape();
-        let parsed = match ParsedQuery::parse_in(alloc, query, mode) {
+        let parsed = match WideQuery::parse_in(alloc, query, mode) {
             Ok(parsed) => parsed,
             Err(error) => {
                 check_query(alloc, query, request)?;
                 return Err(Failure::Memory(error));
             }
         };
-        check_surveyed(&parsed.surveyed(), request)?;
+        check_surveyed(alloc, &parsed.surveyed(), request)?;
         Ok(TakenQuery { parsed, request })
     }
 
@@ -86,7 +86,7 @@ impl<'q> TakenQuery<'q> {
     }
 
     /// The query with its places, read in the mode of the request.
-    pub fn parsed(&self) -> &ParsedQuery<'q>
+    pub fn parsed(&self) -> &WideQuery<'q>
         ensures query { result.now.query ≡ self.now.query }
         ensures mode { result.now.mode ≡ mode_of self.now.request.literals }
     {
@@ -189,20 +189,25 @@ impl<'q> TakenQuery<'q> {
 }
 
 /// Whether the request takes the query, without any values: `Open`, `Unsteady`, `Unportable` or
-/// `Marks` if it doesn't. It is never out of memory, and doesn't use `alloc`.
+/// `Marks` if it doesn't. For a query with a capital in a name it may ask for memory, for a copy of
+/// the query; without it `Memory` stands in place of the latter two.
 pub fn check_query(alloc: Global, query: &[u8], request: Request) -> Result<(), Failure>
     ensures taken { OnOk result (IsTaken request query.now) }
     ensures refused { IfErr result (IsQueryRefusal request query.now) }
     ensures only { IfErr result (λ e. e ≢ Failure.Write) }
-    ensures without_memory { IfErr result (λ e. e ≢ Failure.Memory alloc_error) }
+    ensures memory { IsErrOf result (Failure.Memory alloc_error) → IsCopied request query.now }
 {
     let mode = request.literals.no_backslash_escape();
     let mut first = [NO_PLACE; KEPT_PLACES];
     let reading = Reading {
         no_backslash_escape: mode,
-        wide_names: false,
+        wide_names: true,
     };
-    check_surveyed(&SurveyedQuery::new(query, reading, &mut first), request)
+    check_surveyed(
+        alloc,
+        &SurveyedQuery::new(query, reading, &mut first),
+        request,
+    )
 }
 
 // Writes the whole text.
@@ -217,7 +222,7 @@ fn written<W: Write>(output: &mut W, text: &[u8]) -> Result<(), Failure>
 
 // The first construct of a bound text, if it has to be portable in a client.
 pub(crate) fn found_in_text(text: &[u8], request: Request) -> Option<Unportable>
-    ensures none { result ≡ None → IsPortableIfWanted request text.now }
+    ensures none { result ≡ None → IsTextPortableIfWanted request text.now }
     ensures found { IfSome result (IsFoundInText request text.now) }
 {
     match request.portability {

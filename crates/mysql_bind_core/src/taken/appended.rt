@@ -3,7 +3,7 @@
 //! few of its row, without a map.
 ghost use Rattle.std.specs.Prelude.{◌≡◌, ◌++◌, ◌<◌, ℕ, false, true, List, length, map, option_map, IfOk, IfErr, IfSome, IsTrue, OnErr, OnOk};
 ghost use Rattle.mysql_values.specs.BorrowedValue.{owned_values};
-ghost use Rattle.mysql_named_params.specs.Tokens.{OnTokens};
+ghost use Rattle.mysql_named_params.specs.Reading.{OnWideTokens};
 ghost use Rattle.mysql_named_params.specs.Places.{names};
 ghost use Rattle.mysql_params_core.specs.Given.{Given};
 ghost use Rattle.mysql_params_core.specs.Referents.{referents};
@@ -52,7 +52,7 @@ impl<'q> TakenQuery<'q> {
         assignments: &[Assignment],
         script: &mut Vec<u8>,
     ) -> Result<(), Failure>
-        requires { OnTokens (mode_of self.now.request.literals) self.now.query (λ ts.
+        requires { OnWideTokens (mode_of self.now.request.literals) self.now.query (λ ts.
             referents query_names.now ≡ names ts) }
         ensures bound { OnOk result ((text : List ℕ)
             × IsWritten self.now.request self.now.query assignments.now text
@@ -95,7 +95,7 @@ impl<'q> TakenQuery<'q> {
         assignments: &[Assignment],
         script: &mut Vec<u8>,
     ) -> Result<Attempt, AllocError>
-        requires { OnTokens (mode_of self.now.request.literals) self.now.query (λ ts.
+        requires { OnWideTokens (mode_of self.now.request.literals) self.now.query (λ ts.
             referents query_names.now ≡ names ts) }
         ensures bound { IfOk result (λ attempt. attempt ≡ Attempt.Written → (text : List ℕ)
             × IsWritten self.now.request self.now.query assignments.now text
@@ -128,7 +128,7 @@ impl<'q> TakenQuery<'q> {
         assignments: &[Assignment],
         script: &mut Vec<u8>,
     ) -> Result<Attempt, AllocError>
-        requires { OnTokens (mode_of self.now.request.literals) self.now.query (λ ts.
+        requires { OnWideTokens (mode_of self.now.request.literals) self.now.query (λ ts.
             referents query_names.now ≡ names ts) }
         ensures bound { IfOk result (λ attempt. attempt ≡ Attempt.Written → (text : List ℕ)
             × IsAssignedText self.now.request self.now.query assignments.now text
@@ -157,7 +157,7 @@ impl<'q> TakenQuery<'q> {
         pairs: &[(&[u8], Value)],
         script: &mut Vec<u8>,
     ) -> Result<Attempt, AllocError>
-        requires names { OnTokens (mode_of self.now.request.literals) self.now.query (λ ts.
+        requires names { OnWideTokens (mode_of self.now.request.literals) self.now.query (λ ts.
             referents query_names.now ≡ names ts) }
         requires asked { 0 < length query_names.now }
         ensures bound { IfOk result (λ attempt. attempt ≡ Attempt.Written →
@@ -185,14 +185,14 @@ impl<'q> TakenQuery<'q> {
         values: Vec<ValueRef<'_>>,
         script: &mut Vec<u8>,
     ) -> Result<Attempt, AllocError>
-        requires { (given : Given) × OnTokens (mode_of self.now.request.literals) self.now.query
+        requires { (given : Given) × OnWideTokens (mode_of self.now.request.literals) self.now.query
             (AreFound given (owned_values values.items)) }
         ensures bound { IfOk result (λ attempt. attempt ≡ Attempt.Written → (text : List ℕ)
             × (script.new.items ≡ script.old.items ++ text) × ((given : Given) →
-            OnTokens (mode_of self.now.request.literals) self.now.query
+            OnWideTokens (mode_of self.now.request.literals) self.now.query
             (AreFound given (owned_values values.entry.items)) →
-            OnTokens (mode_of self.now.request.literals) self.now.query (λ ts.
-            IsTextFor self.now.request.literals self.now.request.portability self.now.query ts
+            OnWideTokens (mode_of self.now.request.literals) self.now.query (λ ts.
+            IsTextFor self.now.request.literals self.now.request.portability ts
             given text))) }
         ensures kept { IfOk result (λ attempt. attempt ≡ Attempt.Left →
             script.new.items ≡ script.old.items) }

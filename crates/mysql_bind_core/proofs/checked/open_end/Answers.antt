@@ -1,10 +1,8 @@
 use Rattle.std.proofs.Common.{◌+◌, ℕ, List, arith, drop, rules, subst, sym}
-use Rattle.mysql_named_params.specs.FirstPlace.{IsFirstPlace}
 use Rattle.mysql_named_params.specs.Reading.{OnTokensIn}
-use Rattle.mysql_named_params.specs.declared.places.Reading.{Reading}
 use Rattle.mysql_binding.specs.FoundPlaces.{BeginWithPlaces}
 use Rattle.mysql_binding.proofs.SurveyedQueryLemmas.{begin_with}
-use Rattle.mysql_bind_core.proofs.QueryEndLemmas.{passed_none, passed_more, passed_place, ends_with_place, last_end, end_alone, first_is_whole}
+use Rattle.mysql_bind_core.proofs.QueryEndLemmas.{passed_none, passed_more, passed_place, last_end, end_alone, first_is_whole}
 use Rattle.mysql_bind_core.proofs.checked.open_end.Goals as goal
 
 pub places-init : goal.places-init
@@ -23,14 +21,8 @@ tokens-preserved c = passed_more _ _ _ _ _ c.tokens.invariant c.first_token-len.
 pub returns : goal.returns
 returns c = end_alone _ _ _ c.tokens.invariant (search rules)
 
-pub returns-then-is_empty : goal.returns-then-is_empty
-returns-then-is_empty c =
-    ends_with_place _ _ _ _ _ c.places.invariant.0
-    (subst (λ (r : Reading). OnTokensIn r c.places.rest.now (λ us. IsFirstPlace us c.in-Some.found)) c.requires c.in-Some.ensures.place) c.cut.ensures.after (search rules)
-
 pub places-preserved : goal.places-preserved
 places-preserved c = (
-  passed_place _ _ _ _ _ c.places.invariant.0
-      (subst (λ (r : Reading). OnTokensIn r c.places.rest.now (λ us. IsFirstPlace us c.in-Some.found)) c.requires c.in-Some.ensures.place) c.cut.ensures.after (search rules),
+  passed_place c.args.surveyed.now.reading _ _ _ c.in-Some.found c.places.invariant.0 c.in-Some.ensures.place c.cut.ensures.after (search rules),
   subst (λ (x : List ℕ). OnTokensIn c.args.surveyed.now.reading x (BeginWithPlaces (drop (c.places.passed + 1) c.args.surveyed.now.known.now))) (sym c.cut.ensures.after) c.in-Some.ensures.next,
 )

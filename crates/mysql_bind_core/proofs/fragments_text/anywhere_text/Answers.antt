@@ -1,5 +1,5 @@
 use Rattle.std.specs.Prelude.{false}
-use Rattle.mysql_named_params.specs.Tokens.{OnTokens}
+use Rattle.mysql_named_params.specs.Reading.{OnWideTokens}
 use Rattle.mysql_binding.proofs.AppendedTextLemmas.{handed_on}
 use Rattle.mysql_fragments.specs.GivenFragments.{given_fragments}
 use Rattle.mysql_bind_core.specs.Refusals.{IsFragmentsRefusal}
@@ -8,8 +8,8 @@ use Rattle.mysql_bind_core.specs.declared.request.Literals.TheVariants.{Steady}
 use Rattle.mysql_bind_core.specs.declared.request.Portability.TheVariants.{Portable}
 use Rattle.mysql_bind_core.proofs.fragments_text.anywhere_text.Goals as goal
 
-pub returns-in_err-bind_fragments_anywhere-clause-refused : goal.returns-in_err-bind_fragments_anywhere-clause-refused
-returns-in_err-bind_fragments_anywhere-clause-refused c =
+pub returns-in_err-bind_wide_fragments_anywhere-clause-refused : goal.returns-in_err-bind_wide_fragments_anywhere-clause-refused
+returns-in_err-bind_wide_fragments_anywhere-clause-refused c =
     let query = c.args.query.now in
-    handed_on (λ why. OnTokens false query (λ ts. IsFragmentsRefusal Steady Portable query ts (given_fragments c.args.fragments.now) why))
-    c.from_residual.result (SteadyFragments c.in_err-bind_fragments_anywhere.field-0.0) c.from_residual.ensures.1 (c.in_err-bind_fragments_anywhere.ensures.refused false)
+    handed_on (λ why. OnWideTokens false query (λ ts. IsFragmentsRefusal Steady Portable query ts (given_fragments c.args.fragments.now) why))
+    c.from_residual.result (SteadyFragments c.in_err-bind_wide_fragments_anywhere.field-0.0) c.from_residual.ensures.1 (c.in_err-bind_wide_fragments_anywhere.ensures.refused false)

@@ -1,6 +1,6 @@
 use Rattle.std.proofs.Common.{◌≡◌, ◌++◌, ◌-◌, ◌∙◌, ℕ, List, ap, arith, drop, length, length-drop, subst, sym, take}
 use Rattle.std.proofs.Math.Seq.{drop-append_seam}
-use Rattle.mysql_bind_core.specs.Bound.{IsPortableIfWanted}
+use Rattle.mysql_bind_core.specs.Bound.{IsTextPortableIfWanted}
 use Rattle.mysql_bind_core.specs.Cells.{TableQuery}
 use Rattle.mysql_bind_core.specs.Requests.{mode_of}
 use Rattle.mysql_bind_core.proofs.MatchedLemmas.{absent_key, all_taken}
@@ -33,9 +33,9 @@ returns-then-is_none-clause-bound c = λ done.
     let told = c.in_ok-append_cells.ensures in
     let bound = told.bound c.in-Written.is in
     let behind = text_behind c.len-start.result c.args.script.now.items c.as_slice.result.now c.append_cells.new.script.items bound.0 (c.len-start.ensures ∙ c.args.script.now.ok.0) c.as_slice.ensures.value bound.2 in
-    let found : IsPortableIfWanted c.self.inside.taken.request bound.0 =
-    subst (IsPortableIfWanted c.self.inside.taken.request) behind (subst (λ r. IsPortableIfWanted r (take (length c.as_slice.result.now - c.len-start.result) (drop c.len-start.result c.as_slice.result.now))) c.request-request.ensures.request (c.found_in_text.ensures.none (absent_key c.found_in_text.result c.if-is_none.ensures))) in
-    let portable : IsPortableIfWanted c.args.self.now.request bound.0 = subst (λ (v : TableQuery). IsPortableIfWanted v.request bound.0) c.self.view_is found in (
+    let found : IsTextPortableIfWanted c.self.inside.taken.request bound.0 =
+    subst (IsTextPortableIfWanted c.self.inside.taken.request) behind (subst (λ r. IsTextPortableIfWanted r (take (length c.as_slice.result.now - c.len-start.result) (drop c.len-start.result c.as_slice.result.now))) c.request-request.ensures.request (c.found_in_text.ensures.none (absent_key c.found_in_text.result c.if-is_none.ensures))) in
+    let portable : IsTextPortableIfWanted c.args.self.now.request bound.0 = subst (λ (v : TableQuery). IsTextPortableIfWanted v.request bound.0) c.self.view_is found in (
       bound.0,
       λ assignments are. record { taken = told.taken; assigned = bound.1 assignments are; portable_text = portable },
       bound.2,

@@ -4,7 +4,7 @@ use Rattle.std.specs.Option.{IfSome}
 use Rattle.std.proofs.Common.{◌≡◌, ◌<◌, ℕ, List, true, length, refl, subst, sym, arith}
 use Rattle.std.proofs.lemmas.List.{length-map}
 use Rattle.mysql_named_params.specs.Places.{names}
-use Rattle.mysql_named_params.specs.Tokens.{OnTokens}
+use Rattle.mysql_named_params.specs.Reading.{OnWideTokens}
 use Rattle.mysql_params_core.specs.Referents.{referents}
 use Rattle.mysql_binding.specs.ParsedQuery.{QueryInMode}
 use Rattle.mysql_bind_core.specs.Bound.{IsTaken}
@@ -15,7 +15,7 @@ use Rattle.mysql_bind_core.proofs.matched.MatchedQuery.with_columns.Goals as goa
 
 have_numbers : (query : QueryInMode) (columns : List (List ℕ)) (count : ℕ) (numbers : Option (Vec ℕ)) → length columns ≡ count →
     IfSome numbers (λ n. are_distinct_names columns ≡ true) → IfSome numbers (λ n. 0 < count) → IfSome numbers (λ n. 0 < length n.items) →
-    IfSome numbers (λ n. OnTokens query.mode query.query (λ ts. AreNumbersOf columns (names ts) n.items)) →
+    IfSome numbers (λ n. OnWideTokens query.mode query.query (λ ts. AreNumbersOf columns (names ts) n.items)) →
     IfSome numbers (λ n. HaveNumbers query columns n.items)
 have_numbers query columns count None e distinct some asked are = tt
 have_numbers query columns count (Some n) e distinct some asked are = record { some = omega (arith, some, e); asked = asked; distinct = distinct; are = are }
