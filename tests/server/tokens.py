@@ -21,7 +21,7 @@ def _pattern(string: bytes) -> re.Pattern:
     return re.compile(
         rb"(?P<string>" + strings + rb")|(?P<identifier>`[^`]*(?:`|\Z))"
         rb"|(?P<line>(?:#|--[\t\f\r ])[^\n]*(?:\n|\Z))|(?P<block>/\*(?![!+])(?:.*?\*/|.*\Z))"
-        rb"|(?P<name>:[a-z_][a-z0-9_]*)|(?P<mark>\?)|(?P<plain>.)",
+        rb"|(?P<name>:[A-Za-z_][A-Za-z0-9_]*)|(?P<mark>\?)|(?P<plain>.)",
         re.DOTALL,
     )
 
