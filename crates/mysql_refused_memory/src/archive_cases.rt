@@ -29,13 +29,13 @@ pub(crate) fn case(alloc: Global, name: &str) -> Option<Case> {
 }
 
 /// A caller's room, before a call.
-const ROOM: &[u8; 32] = &[b'*'; 32];
+pub(crate) const ROOM: &[u8; 32] = &[b'*'; 32];
 
 /// What stands in the room, or the refusal, which leaves the room as it was.
-type Wanted = Result<&'static [u8], Told>;
+pub(crate) type Wanted = Result<&'static [u8], Told>;
 
 /// How a call went that may write into the room.
-fn written(told: Told, room: &[u8], wanted: Wanted) -> Outcome {
+pub(crate) fn written(told: Told, room: &[u8], wanted: Wanted) -> Outcome {
     let is_untouched = room == ROOM.as_slice();
     if told.number() == 1 {
         return Outcome::Memory.if_holds(is_untouched);

@@ -48,6 +48,9 @@ const WRITTEN: &[(&str, Row)] = cases! {
         b":a :b :c",
         &[(b"a", Uint, b"7"), (b"b", Number, b"18446744073709551615"), (b"c", Number, b"-1")],
         STEADY, Ok(b"7 18446744073709551615 -1");
+    "write_bound of names with capitals" =>
+        b":Id, :id", &[(b"Id", Int, b"-3"), (b"id", Text, b"it's")], STEADY,
+        Ok(b"-3, _utf8mb4'it''s'");
     "write_bound of bytes in hexadecimal and base64" =>
         b":a, :b", &[(b"a", Hex, b"C3A9"), (b"b", Base64, b"w6k=")], STEADY,
         Ok(b"_utf8mb4 0xC3A9, _utf8mb4 0xC3A9");
@@ -73,6 +76,9 @@ const WRITTEN: &[(&str, Row)] = cases! {
     "write_bound of an unsteady query" => b"'\\\\':a", NUMBER, STEADY, Err("Unsteady { at: 1 }");
     "write_bound of a query that is not portable" =>
         b"[ :a", NUMBER, STEADY, Err("Unportable(Unportable { construct: Bracket, at: 0 })");
+    "write_bound of names with capitals in a query that is not portable" =>
+        b"/*+ :Id */", &[(b"Id", Int, b"5")], STEADY,
+        Err("Unportable(Unportable { construct: Hint, at: 0 })");
     "write_bound of a mark" => b":a ?", NUMBER, PLAIN, Err("Marks");
     "write_bound of bytes that are no number" =>
         b":a", &[(b"a", Int, b"x")], STEADY, Err("NoValue");

@@ -1,8 +1,9 @@
-//! Fixed queries: `bind_named`, `bind_positional`, and both in a mode and for any server.
+//! Fixed queries: `bind_named`, `bind_wide_named`, `bind_positional`, and each in a mode and for
+//! any server.
 use crate::outcome::{Case, Outcome, cases, judged, row};
 use mysql_params::fixed_query::{
     bind_named, bind_named_anywhere, bind_named_in, bind_positional, bind_positional_anywhere,
-    bind_positional_in,
+    bind_positional_in, bind_wide_named, bind_wide_named_anywhere, bind_wide_named_in,
 };
 use std::alloc::{AllocError, Global};
 
@@ -12,6 +13,9 @@ enum Call {
     ByName,
     ByNameIn,
     ByNameAnywhere,
+    ByWideName,
+    ByWideNameIn,
+    ByWideNameAnywhere,
     ByPosition,
     WithoutPlaces,
     ByPositionIn,
@@ -22,6 +26,9 @@ const CALLS: &[(&str, Call)] = cases! {
     "bind_named of a text and a number" => Call::ByName;
     "bind_named_in of a text without backslash escapes" => Call::ByNameIn;
     "bind_named_anywhere of a text and a number" => Call::ByNameAnywhere;
+    "bind_wide_named of a text and a number" => Call::ByWideName;
+    "bind_wide_named_in of a text without backslash escapes" => Call::ByWideNameIn;
+    "bind_wide_named_anywhere of a text and a number" => Call::ByWideNameAnywhere;
     "bind_positional of a text and a number" => Call::ByPosition;
     "bind_positional of a query without places" => Call::WithoutPlaces;
     "bind_positional_in of a text without backslash escapes" => Call::ByPositionIn;
@@ -34,6 +41,9 @@ pub(crate) fn case(alloc: Global, name: &str) -> Option<Case> {
         Call::ByName => by_name(alloc),
         Call::ByNameIn => by_name_in(alloc),
         Call::ByNameAnywhere => by_name_anywhere(alloc),
+        Call::ByWideName => by_wide_name(alloc),
+        Call::ByWideNameIn => by_wide_name_in(alloc),
+        Call::ByWideNameAnywhere => by_wide_name_anywhere(alloc),
         Call::ByPosition => by_position(alloc),
         Call::WithoutPlaces => {
             is_bound(bind_positional(alloc, b"SELECT '?'", &()), b"SELECT '?'")
@@ -64,6 +74,24 @@ fn by_name_anywhere(alloc: Global) -> Outcome {
     let pairs = (("id", 42u8), ("name", "it's"));
     let answer = bind_named_anywhere(alloc, b"SELECT :name, :id", &pairs);
     is_bound(answer, b"SELECT _utf8mb4'it''s', 42")
+}
+
+fn by_wide_name(alloc: Global) -> Outcome {
+    let pairs = (("Id", 42u8), ("id", "it's"));
+    let answer = bind_wide_named(alloc, b"SELECT :id, :Id", &pairs);
+    is_bound(answer, b"SELECT 'it\\'s', 42")
+}
+
+fn by_wide_name_in(alloc: Global) -> Outcome {
+    let answer = bind_wide_named_in(alloc, b"SELECT 'a\\', :B", &(("B", "it's\\"),), true);
+    is_bound(answer, b"SELECT 'a\\', 'it''s\\'")
+}
+
+// The query isn't copied to see that it is portable: that is proved.
+fn by_wide_name_anywhere(alloc: Global) -> Outcome {
+    let pairs = (("Id", 42u8), ("id", "it's"));
+    let answer = bind_wide_named_anywhere(alloc, b"/*! */ :id, :Id", &pairs);
+    is_bound(answer, b"/*! */ _utf8mb4'it''s', 42")
 }
 
 fn by_position(alloc: Global) -> Outcome {

@@ -47,7 +47,7 @@ const FORMS: &[(&str, FormRow)] = cases! {
 };
 
 /// What stands in the room, or the refusal.
-type Wanted = Result<&'static [u8], FragmentsOutcome>;
+pub(crate) type Wanted = Result<&'static [u8], FragmentsOutcome>;
 
 /// A query, a form, the answer or refusal, and whether the call asks for memory.
 type BoundRow = (&'static [u8], &'static [u8], Wanted, Memory);
@@ -163,7 +163,7 @@ fn bound_anywhere(alloc: Global, (query, form, wanted, memory): BoundRow) -> Out
 }
 
 /// How a call went that may write into the room.
-fn written(told: FragmentsOutcome, room: &[u8], wanted: Wanted) -> Outcome {
+pub(crate) fn written(told: FragmentsOutcome, room: &[u8], wanted: Wanted) -> Outcome {
     let is_untouched = room == ROOM.as_slice();
     if told == FragmentsOutcome::AsValues(Told::OutOfMemory) {
         return Outcome::Memory.if_holds(is_untouched);

@@ -129,7 +129,7 @@ fn bound(alloc: Global, (query, given, no_backslash_escape, wanted, memory): Row
 }
 
 /// The text of an expanded query, and its values.
-type Expanded = (&'static [u8], &'static [Plain<'static>]);
+pub(crate) type Expanded = (&'static [u8], &'static [Plain<'static>]);
 
 /// A query, what is given, the mode (without one it is `expanded_query`), the expanded query or the
 /// refusal, and whether it asks for memory.

@@ -32,6 +32,12 @@ mod steady_fragment_cases;
 mod table_cases;
 mod table_text_cases;
 mod value_cases;
+mod wide_archive_cases;
+mod wide_cases;
+mod wide_fragment_cases;
+mod wide_pair_cases;
+mod wide_query_cases;
+mod wide_steady_cases;
 mod wire_cases;
 mod written_cases;
 
@@ -52,6 +58,9 @@ fn case(alloc: Global, name: &str) -> Option<Case> {
         return Some(case);
     }
     if let Some(case) = bind_case(alloc, name) {
+        return Some(case);
+    }
+    if let Some(case) = wide_case(alloc, name) {
         return Some(case);
     }
     bound_case(alloc, name)
@@ -123,6 +132,26 @@ fn bind_case(alloc: Global, name: &str) -> Option<Case> {
         return Some(case);
     }
     bind_rows_cases::case(alloc, name)
+}
+
+/// Of wide names, except those of fixed queries, rows and tables.
+fn wide_case(alloc: Global, name: &str) -> Option<Case> {
+    if let Some(case) = wide_cases::case(alloc, name) {
+        return Some(case);
+    }
+    if let Some(case) = wide_query_cases::case(alloc, name) {
+        return Some(case);
+    }
+    if let Some(case) = wide_pair_cases::case(alloc, name) {
+        return Some(case);
+    }
+    if let Some(case) = wide_steady_cases::case(alloc, name) {
+        return Some(case);
+    }
+    if let Some(case) = wide_fragment_cases::case(alloc, name) {
+        return Some(case);
+    }
+    wide_archive_cases::case(alloc, name)
 }
 
 /// Of binding, the program and the archive.

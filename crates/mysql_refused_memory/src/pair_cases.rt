@@ -38,10 +38,10 @@ enum Call {
     BothModes,
 }
 
-type Wanted = Result<&'static [u8], &'static str>;
+pub(crate) type Wanted = Result<&'static [u8], &'static str>;
 
 /// A name and its value.
-type Pair = (&'static [u8], ValueRef<'static>);
+pub(crate) type Pair = (&'static [u8], ValueRef<'static>);
 
 /// A call, a query, pairs, the text or the refusal, and whether the call asks for memory.
 type PairsRow = (Call, &'static [u8], &'static [Pair], Wanted, Memory);
@@ -141,7 +141,7 @@ fn values_bound(alloc: Global, (call, query, values, wanted, memory): ValuesRow)
 }
 
 /// How a call for pairs went.
-fn judged_pairs(answer: Result<Vec<u8>, BindPairsError>, wanted: Wanted) -> Outcome {
+pub(crate) fn judged_pairs(answer: Result<Vec<u8>, BindPairsError>, wanted: Wanted) -> Outcome {
     match answer {
         Err(BindPairsError::Bind(error)) => judged::<Vec<u8>, &[u8], BindError>(Err(error), wanted),
         other => judged(other, wanted),
@@ -149,7 +149,7 @@ fn judged_pairs(answer: Result<Vec<u8>, BindPairsError>, wanted: Wanted) -> Outc
 }
 
 /// How a call for steady text of pairs went.
-fn judged_steady(answer: Result<Vec<u8>, SteadyPairsError>, wanted: Wanted) -> Outcome {
+pub(crate) fn judged_steady(answer: Result<Vec<u8>, SteadyPairsError>, wanted: Wanted) -> Outcome {
     match answer {
         Err(SteadyPairsError::Bind(SteadyTextError::Bind(error))) => {
             judged::<Vec<u8>, &[u8], BindError>(Err(error), wanted)
@@ -159,7 +159,7 @@ fn judged_steady(answer: Result<Vec<u8>, SteadyPairsError>, wanted: Wanted) -> O
 }
 
 /// How a call for text in both modes of pairs went.
-fn judged_both(answer: Result<Vec<u8>, BothModesPairsError>, wanted: Wanted) -> Outcome {
+pub(crate) fn judged_both(answer: Result<Vec<u8>, BothModesPairsError>, wanted: Wanted) -> Outcome {
     match answer {
         Err(BothModesPairsError::Bind(BothModesError::Bind(error))) => {
             judged::<Vec<u8>, &[u8], BindError>(Err(error), wanted)
@@ -169,7 +169,7 @@ fn judged_both(answer: Result<Vec<u8>, BothModesPairsError>, wanted: Wanted) -> 
 }
 
 /// How a call for steady text went.
-fn judged_text(answer: Result<Vec<u8>, SteadyTextError>, wanted: Wanted) -> Outcome {
+pub(crate) fn judged_text(answer: Result<Vec<u8>, SteadyTextError>, wanted: Wanted) -> Outcome {
     match answer {
         Err(SteadyTextError::Bind(error)) => {
             judged::<Vec<u8>, &[u8], BindError>(Err(error), wanted)
@@ -179,7 +179,7 @@ fn judged_text(answer: Result<Vec<u8>, SteadyTextError>, wanted: Wanted) -> Outc
 }
 
 /// How a call for text in both modes went.
-fn judged_modes(answer: Result<Vec<u8>, BothModesError>, wanted: Wanted) -> Outcome {
+pub(crate) fn judged_modes(answer: Result<Vec<u8>, BothModesError>, wanted: Wanted) -> Outcome {
     match answer {
         Err(BothModesError::Bind(error)) => judged::<Vec<u8>, &[u8], BindError>(Err(error), wanted),
         other => judged(other, wanted),
@@ -187,9 +187,10 @@ fn judged_modes(answer: Result<Vec<u8>, BothModesError>, wanted: Wanted) -> Outc
 }
 
 /// How a call into this room went: it has the text at its front, or is as before.
-fn told_in_room<E: Debug + Drop>(
+pub(crate) fn told_in_room<E: Debug + Drop>(
     told: Result<TextInRoom, E>,
     room: &[u8],
+    before: &[u8],
     wanted: Wanted,
 ) -> Outcome {
     match told {
@@ -198,11 +199,12 @@ fn told_in_room<E: Debug + Drop>(
             Outcome::Answer.if_holds(wanted.is_ok_and(|wanted| wanted == text))
         }
         Ok(TextInRoom::TooShort { .. }) => Outcome::Wrong,
-        Err(error) => judged::<Vec<u8>, &[u8], E>(Err(error), wanted).if_holds(room == ROOM),
+        Err(error) => judged::<Vec<u8>, &[u8], E>(Err(error), wanted).if_holds(room == before),
     }
 }
 
-const ROOM: &[u8] = b"........";
+/// A caller's room, before a call.
+const ROOM: &[u8; 8] = b"........";
 
 fn pairs_in_room(
     alloc: Global,
@@ -210,17 +212,17 @@ fn pairs_in_room(
     pairs: &[(&[u8], ValueRef<'_>)],
     wanted: Wanted,
 ) -> Outcome {
-    let mut room = *b"........";
+    let mut room = *ROOM;
     match bind_pairs_into(alloc, query, pairs, false, &mut room) {
-        Err(BindPairsError::Bind(error)) => told_in_room(Err(error), &room, wanted),
-        told => told_in_room(told, &room, wanted),
+        Err(BindPairsError::Bind(error)) => told_in_room(Err(error), &room, ROOM, wanted),
+        told => told_in_room(told, &room, ROOM, wanted),
     }
 }
 
 fn values_in_room(alloc: Global, query: &[u8], values: &[ValueRef<'_>], wanted: Wanted) -> Outcome {
-    let mut room = *b"........";
+    let mut room = *ROOM;
     let told = bind_values_into(alloc, query, values, false, &mut room);
-    told_in_room(told, &room, wanted)
+    told_in_room(told, &room, ROOM, wanted)
 }
 
 fn pairs_appended(

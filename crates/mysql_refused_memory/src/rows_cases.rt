@@ -1,13 +1,16 @@
 //! Rows bound into the caller's room.
 use crate::outcome::Memory::{Asked, Never};
 use crate::outcome::{Case, Memory, Outcome, cases, row};
-use mysql_flat_params::{Outcome as Told, bind_rows_into};
+use mysql_flat_params::{Outcome as Told, Reading, bind_rows_into, bind_rows_into_read};
 use std::alloc::Global;
 
 /// How the call of this name went, if it stands here.
 pub(crate) fn case(alloc: Global, name: &str) -> Option<Case> {
-    let row = row(BOUND, name)?;
-    Some(Ok(bound(alloc, row)))
+    if let Some(row) = row(BOUND, name) {
+        return Some(Ok(bound(alloc, row, None)));
+    }
+    let (row, no_backslash_escape) = row(WIDE, name)?;
+    Some(Ok(bound(alloc, row, Some(no_backslash_escape))))
 }
 
 /// A caller's room, before a call.
@@ -32,9 +35,38 @@ const BOUND: &[(&str, RowsRow)] = cases! {
         b"?????????????????", b"\x00", b"", Told::MarkCount { marks: 17, values: 0, }, Asked;
 };
 
-fn bound(alloc: Global, (query, forms, texts, wanted, memory): RowsRow) -> Outcome {
+/// The text `it's` for `Ab`.
+const WIDE_ROW: &[u8] = b"\x0A\x02Ab\xFD\x00\x04it's";
+
+/// The same by wide names, in a mode. They have one row: for more the call also asks for memory
+/// that it can do without, and answers if that is refused.
+const WIDE: &[(&str, (RowsRow, bool))] = cases! {
+    "bind_rows_into_read of a row" => (b"= :Ab", WIDE_ROW, b"\x09= 'it\\'s'",
+        Told::Done { len: 10 }, Asked), false;
+    "bind_rows_into_read of a row without backslash escapes" => (b"= :Ab", WIDE_ROW,
+        b"\x09= 'it''s'", Told::Done { len: 10 }, Asked), true;
+    "bind_rows_into_read of no rows" => (b":A ?", b"", b"", Told::Done { len: 0 }, Never), false;
+    "bind_rows_into_read of a missing name" => (b"= :A", WIDE_ROW, b"",
+        Told::Missing { place: 0, position: 3, len: 1, }, Asked), false;
+};
+
+// By wide names in the mode, or by those of the grammar.
+fn bound(
+    alloc: Global,
+    (query, forms, texts, wanted, memory): RowsRow,
+    wide: Option<bool>,
+) -> Outcome {
     let mut room = *ROOM;
-    let (rows, told) = bind_rows_into(alloc, query, forms, false, &mut room);
+    let (rows, told) = match wide {
+        None => bind_rows_into(alloc, query, forms, false, &mut room),
+        Some(no_backslash_escape) => {
+            let reading = Reading {
+                no_backslash_escape,
+                wide_names: true,
+            };
+            bind_rows_into_read(alloc, query, forms, reading, &mut room)
+        }
+    };
     if told.number() == 1 {
         // The rows before are kept.
         return Outcome::Memory

@@ -92,17 +92,17 @@ const IN_ANY_MODE: &[(&str, Row)] = cases! {
 fn bound_anywhere(alloc: Global, (query, given, wanted, memory): Row) -> Case {
     let fragments = given.fragments(alloc)?;
     let answer = bind_fragments_anywhere(alloc, query, &fragments);
-    Ok(judged_steady(answer, wanted).with(memory))
+    Ok(judged_fragments(answer, wanted).with(memory))
 }
 
 fn bound_in_any_mode(alloc: Global, (query, given, wanted, memory): Row) -> Case {
     let fragments = given.fragments(alloc)?;
     let answer = bind_fragments_in_any_mode(alloc, query, &fragments);
-    Ok(judged_steady(answer, wanted).with(memory))
+    Ok(judged_fragments(answer, wanted).with(memory))
 }
 
 /// How a call went that should give this text, or this refusal.
-fn judged_steady(
+pub(crate) fn judged_fragments(
     answer: Result<Vec<u8>, SteadyFragmentsError>,
     wanted: Result<&'static [u8], &'static str>,
 ) -> Outcome {

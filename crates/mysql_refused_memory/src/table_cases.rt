@@ -2,17 +2,23 @@
 use crate::outcome::Memory::{Asked, Never};
 use crate::outcome::{Case, Memory, Outcome, cases, row};
 use mysql_flat_params::{
-    Outcome as Told, PlaceSpan, TableHead, TableOutcome, Template, bind_by_table_into, table_into,
+    Outcome as Told, PlaceSpan, ReadTemplate, Reading, TableHead, TableOutcome, Template,
+    bind_by_table_into, bind_by_table_into_read, table_into, table_into_read,
 };
 use std::alloc::Global;
 
 /// How the call of this name went, if it stands here.
 pub(crate) fn case(alloc: Global, name: &str) -> Option<Case> {
     if let Some(row) = row(MADE, name) {
-        return Some(Ok(made(alloc, row)));
+        return Some(Ok(made(alloc, row, None)));
     }
-    let row = row(BOUND, name)?;
-    Some(Ok(bound(alloc, row)))
+    if let Some((row, reading)) = row(WIDE_MADE, name) {
+        return Some(Ok(made(alloc, row, Some(reading))));
+    }
+    if let Some(row) = row(BOUND, name) {
+        return Some(Ok(bound(alloc, row)));
+    }
+    Some(Ok(bound_by_wide_names(alloc, row(WIDE_BOUND, name)?)))
 }
 
 /// Head and places before a call.
@@ -37,10 +43,40 @@ const MADE: &[(&str, MadeRow)] = cases! {
     "table_into of a room that is too short" => b"?,?,?", Told::Room { len: 3 }, &[], Never;
 };
 
-fn made(alloc: Global, (query, wanted, places, memory): MadeRow) -> Outcome {
+/// The readings by wide names.
+const WITH_BACKSLASHES: Reading = Reading {
+    no_backslash_escape: false,
+    wide_names: true,
+};
+
+const WITHOUT_BACKSLASHES: Reading = Reading {
+    no_backslash_escape: true,
+    wide_names: true,
+};
+
+/// The same in a reading.
+const WIDE_MADE: &[(&str, (MadeRow, Reading))] = cases! {
+    "table_into_read of names" => (b":Ab,:b", Told::Done { len: 2 }, WIDE_PLACES, Asked),
+        WITH_BACKSLASHES;
+    "table_into_read of a name without backslash escapes" => (b"'\\':A", Told::Done { len: 1 },
+        &[PlaceSpan { before: 3, len: 2, }], Asked), WITHOUT_BACKSLASHES;
+    "table_into_read of nothing" => (b"':A'", Told::Done { len: 0 }, &[], Never), WITH_BACKSLASHES;
+    "table_into_read of a room that is too short" =>
+        (b":A,:A,:A", Told::Room { len: 3 }, &[], Never), WITH_BACKSLASHES;
+};
+
+// In the reading, or with backslash escapes by the names of the grammar.
+fn made(
+    alloc: Global,
+    (query, wanted, places, memory): MadeRow,
+    reading: Option<Reading>,
+) -> Outcome {
     let mut head = NO_HEAD;
     let mut room = [NO_PLACE; 2];
-    let told = table_into(alloc, query, false, &mut head, &mut room);
+    let told = match reading {
+        None => table_into(alloc, query, false, &mut head, &mut room),
+        Some(reading) => table_into_read(alloc, query, reading, &mut head, &mut room),
+    };
     let is_untouched = room == [NO_PLACE; 2];
     match told {
         Told::OutOfMemory => Outcome::Memory.if_holds(is_untouched && head == NO_HEAD),
@@ -104,14 +140,62 @@ fn bound(alloc: Global, (head, places, form, wanted, memory): BoundRow) -> Outco
         places,
     };
     let told = bind_by_table_into(alloc, &template, form, &mut room);
-    let is_untouched = room == *ROOM;
-    let outcome = match (told, wanted) {
+    bound_in_room(told, &room, wanted).with(memory)
+}
+
+/// The table of `:Ab,:b` has the head of `:a,:b`.
+const WIDE_PLACES: &[PlaceSpan] = &[
+    PlaceSpan { before: 0, len: 3 },
+    PlaceSpan { before: 1, len: 2 },
+];
+
+/// `Ab` and `b` are the text `it's` and NULL.
+const WIDE_FORM: &[u8] = b"\x02Ab\xFD\x00\x04it's\x01b\x06\x00";
+
+const ONLY_AB: &[u8] = b"\x02Ab\x06\x00";
+
+/// The reading and the places of a table, a form, the text or what is told, and whether the call
+/// asks for memory.
+type WideRow = (
+    Reading,
+    &'static [PlaceSpan],
+    &'static [u8],
+    Result<&'static [u8], TableOutcome>,
+    Memory,
+);
+
+const WIDE_BOUND: &[(&str, WideRow)] = cases! {
+    "bind_by_table_into_read of names" =>
+        WITH_BACKSLASHES, WIDE_PLACES, WIDE_FORM, Ok(b"'it\\'s',NULL"), Asked;
+    "bind_by_table_into_read of names without backslash escapes" =>
+        WITHOUT_BACKSLASHES, WIDE_PLACES, WIDE_FORM, Ok(b"'it''s',NULL"), Asked;
+    "bind_by_table_into_read of another table" =>
+        WITH_BACKSLASHES, ONE_PLACE, WIDE_FORM, Err(TableOutcome::OtherTable), Never;
+    "bind_by_table_into_read of a missing name" => WITH_BACKSLASHES, WIDE_PLACES, ONLY_AB,
+        Err(TableOutcome::AsQuery(Told::Missing { place: 1, position: 5, len: 1, })), Asked;
+};
+
+fn bound_by_wide_names(alloc: Global, (reading, places, form, wanted, memory): WideRow) -> Outcome {
+    let mut room = *ROOM;
+    let template = ReadTemplate {
+        query: b":Ab,:b",
+        reading,
+        head: HEAD,
+        places,
+    };
+    let told = bind_by_table_into_read(alloc, &template, form, &mut room);
+    bound_in_room(told, &room, wanted).with(memory)
+}
+
+/// How a call went that may write into the room.
+fn bound_in_room(told: TableOutcome, room: &[u8], wanted: Result<&[u8], TableOutcome>) -> Outcome {
+    let is_untouched = room == ROOM.as_slice();
+    match (told, wanted) {
         (TableOutcome::AsQuery(Told::OutOfMemory), _) => Outcome::Memory.if_holds(is_untouched),
         (_, Ok(text)) => {
             let done = TableOutcome::AsQuery(Told::Done { len: text.len() });
             Outcome::Answer.if_holds(told == done && room.starts_with(text))
         }
         (_, Err(refusal)) => Outcome::Refusal.if_holds(told == refusal && is_untouched),
-    };
-    outcome.with(memory)
+    }
 }
