@@ -101,12 +101,12 @@ pub fn names(query: &[u8], room: &mut [u8]) -> (i32, Report) {
 }
 
 pub fn bind(query: &[u8], form: &[u8], room: &mut [u8]) -> (i32, Report) {
-    bind_in(query, form, false, room)
+    in_mode(mysql_params_bind, query, form, false, room)
 }
 
 /// `bind` with lists, rows and more.
 pub fn bind_fragments(query: &[u8], form: &[u8], room: &mut [u8]) -> (i32, Report) {
-    bind_fragments_in(query, form, false, room)
+    in_mode(mysql_params_bind_fragments, query, form, false, room)
 }
 
 /// The same in the mode without backslash escapes.
@@ -115,29 +115,17 @@ pub fn bind_fragments_without_backslashes(
     form: &[u8],
     room: &mut [u8],
 ) -> (i32, Report) {
-    bind_fragments_in(query, form, true, room)
+    in_mode(mysql_params_bind_fragments, query, form, true, room)
 }
 
 /// The same for any mode and any server.
 pub fn bind_fragments_anywhere(query: &[u8], form: &[u8], room: &mut [u8]) -> (i32, Report) {
-    let (query_at, form_at, room_at) = (query.as_ptr(), form.as_ptr(), room.as_mut_ptr());
-    let (query_len, form_len, room_len) = (query.len(), form.len(), room.len());
-    number_and_report(|report| unsafe {
-        mysql_params_bind_fragments_anywhere(
-            query_at, query_len, form_at, form_len, room_at, room_len, report,
-        )
-    })
+    anywhere(mysql_params_bind_fragments_anywhere, query, form, room)
 }
 
 /// `bind` for any mode and any server.
 pub fn bind_anywhere(query: &[u8], form: &[u8], room: &mut [u8]) -> (i32, Report) {
-    let (query_at, form_at, room_at) = (query.as_ptr(), form.as_ptr(), room.as_mut_ptr());
-    let (query_len, form_len, room_len) = (query.len(), form.len(), room.len());
-    number_and_report(|report| unsafe {
-        mysql_params_bind_anywhere(
-            query_at, query_len, form_at, form_len, room_at, room_len, report,
-        )
-    })
+    anywhere(mysql_params_bind_anywhere, query, form, room)
 }
 
 /// `names` in the mode without backslash escapes.
@@ -147,7 +135,7 @@ pub fn names_without_backslashes(query: &[u8], room: &mut [u8]) -> (i32, Report)
 
 /// `bind` in the mode without backslash escapes.
 pub fn bind_without_backslashes(query: &[u8], form: &[u8], room: &mut [u8]) -> (i32, Report) {
-    bind_in(query, form, true, room)
+    in_mode(mysql_params_bind, query, form, true, room)
 }
 
 #[inline(always)]
@@ -158,26 +146,21 @@ fn names_in(query: &[u8], no_backslash_escape: bool, room: &mut [u8]) -> (i32, R
     })
 }
 
-#[inline(always)]
-fn bind_in(query: &[u8], form: &[u8], no_backslash_escape: bool, room: &mut [u8]) -> (i32, Report) {
-    let (query_at, form_at, room_at) = (query.as_ptr(), form.as_ptr(), room.as_mut_ptr());
-    let (query_len, form_len, room_len) = (query.len(), form.len(), room.len());
-    number_and_report(|report| unsafe {
-        mysql_params_bind(
-            query_at,
-            query_len,
-            form_at,
-            form_len,
-            no_backslash_escape,
-            room_at,
-            room_len,
-            report,
-        )
-    })
-}
+/// A call of the archive that binds in a mode.
+type InMode = unsafe extern "C" fn(
+    *const u8,
+    usize,
+    *const u8,
+    usize,
+    bool,
+    *mut u8,
+    usize,
+    *mut Report,
+) -> i32;
 
 #[inline(always)]
-fn bind_fragments_in(
+pub fn in_mode(
+    call: InMode,
     query: &[u8],
     form: &[u8],
     no_backslash_escape: bool,
@@ -186,16 +169,20 @@ fn bind_fragments_in(
     let (query_at, form_at, room_at) = (query.as_ptr(), form.as_ptr(), room.as_mut_ptr());
     let (query_len, form_len, room_len) = (query.len(), form.len(), room.len());
     number_and_report(|report| unsafe {
-        mysql_params_bind_fragments(
-            query_at,
-            query_len,
-            form_at,
-            form_len,
-            no_backslash_escape,
-            room_at,
-            room_len,
-            report,
-        )
+        call(query_at, query_len, form_at, form_len, no_backslash_escape, room_at, room_len, report)
+    })
+}
+
+/// A call of the archive that binds for any server.
+type Anywhere =
+    unsafe extern "C" fn(*const u8, usize, *const u8, usize, *mut u8, usize, *mut Report) -> i32;
+
+#[inline(always)]
+pub fn anywhere(call: Anywhere, query: &[u8], form: &[u8], room: &mut [u8]) -> (i32, Report) {
+    let (query_at, form_at, room_at) = (query.as_ptr(), form.as_ptr(), room.as_mut_ptr());
+    let (query_len, form_len, room_len) = (query.len(), form.len(), room.len());
+    number_and_report(|report| unsafe {
+        call(query_at, query_len, form_at, form_len, room_at, room_len, report)
     })
 }
 

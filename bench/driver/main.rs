@@ -15,6 +15,7 @@ mod memory;
 mod other_mode;
 mod portable;
 mod random;
+mod readings;
 mod report;
 mod row_bindings;
 mod rows;

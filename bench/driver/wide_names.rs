@@ -1,32 +1,13 @@
 //! Plain Rust and the archive by wide names, which may have capitals. They are compared and not timed.
 
-use crate::archive::number_and_report;
+use crate::archive::{anywhere, in_mode, number_and_report};
+use crate::readings::Read;
 use plain::bind::{bind, bind_anywhere};
 use plain::room::{self, Report};
 use plain::search::Search;
-use std::marker::PhantomData;
 
 /// The searches of one kind, by wide names.
-pub struct WideNames<S>(PhantomData<S>);
-
-impl<S: Search> Search for WideNames<S> {
-    const WIDE_NAMES: bool = true;
-    fn token_start(text: &[u8], from: usize) -> usize {
-        S::token_start(text, from)
-    }
-    fn either(text: &[u8], from: usize, one: u8, other: u8) -> usize {
-        S::either(text, from, one, other)
-    }
-    fn byte(text: &[u8], from: usize, byte: u8) -> usize {
-        S::byte(text, from, byte)
-    }
-    fn comment_end(text: &[u8], from: usize) -> usize {
-        S::comment_end(text, from)
-    }
-    fn escaped(text: &[u8], from: usize) -> usize {
-        S::escaped(text, from)
-    }
-}
+pub type WideNames<S> = Read<S, false, true>;
 
 pub fn names<S: Search>(query: &[u8], room: &mut [u8]) -> (i32, Report) {
     room::names::<WideNames<S>>(query, room)
@@ -90,8 +71,7 @@ unsafe extern "C" {
     ) -> i32;
 }
 
-// SAFETY, of each call below: pointers and lengths are those of slices, and the report is the archive's to write.
-
+// SAFETY: pointers and lengths are those of slices, and the report is the archive's to write.
 pub fn archive_names(query: &[u8], room: &mut [u8]) -> (i32, Report) {
     let (query_at, room_at) = (query.as_ptr(), room.as_mut_ptr());
     number_and_report(|report| unsafe {
@@ -99,38 +79,8 @@ pub fn archive_names(query: &[u8], room: &mut [u8]) -> (i32, Report) {
     })
 }
 
-/// A call of the archive in a mode.
-type InMode = unsafe extern "C" fn(
-    *const u8,
-    usize,
-    *const u8,
-    usize,
-    bool,
-    *mut u8,
-    usize,
-    *mut Report,
-) -> i32;
-
-/// A call of the archive for any server.
-type Anywhere =
-    unsafe extern "C" fn(*const u8, usize, *const u8, usize, *mut u8, usize, *mut Report) -> i32;
-
-fn in_mode(call: InMode, query: &[u8], form: &[u8], room: &mut [u8]) -> (i32, Report) {
-    let (query_at, form_at, room_at) = (query.as_ptr(), form.as_ptr(), room.as_mut_ptr());
-    number_and_report(|report| unsafe {
-        call(query_at, query.len(), form_at, form.len(), false, room_at, room.len(), report)
-    })
-}
-
-fn anywhere(call: Anywhere, query: &[u8], form: &[u8], room: &mut [u8]) -> (i32, Report) {
-    let (query_at, form_at, room_at) = (query.as_ptr(), form.as_ptr(), room.as_mut_ptr());
-    number_and_report(|report| unsafe {
-        call(query_at, query.len(), form_at, form.len(), room_at, room.len(), report)
-    })
-}
-
 pub fn archive_bind(query: &[u8], form: &[u8], room: &mut [u8]) -> (i32, Report) {
-    in_mode(mysql_params_bind_wide, query, form, room)
+    in_mode(mysql_params_bind_wide, query, form, false, room)
 }
 
 pub fn archive_bind_anywhere(query: &[u8], form: &[u8], room: &mut [u8]) -> (i32, Report) {
@@ -138,7 +88,7 @@ pub fn archive_bind_anywhere(query: &[u8], form: &[u8], room: &mut [u8]) -> (i32
 }
 
 pub fn archive_bind_fragments(query: &[u8], form: &[u8], room: &mut [u8]) -> (i32, Report) {
-    in_mode(mysql_params_bind_fragments_wide, query, form, room)
+    in_mode(mysql_params_bind_fragments_wide, query, form, false, room)
 }
 
 pub fn archive_bind_fragments_anywhere(
