@@ -10,8 +10,8 @@ input; this module, which hands values in and answers out, is tested. Before you
 matter for security" in the repository's README.md.
 
 A name in a query is a colon, a letter or `_`, and all letters, digits and `_` that follow, as `:userId`. Letters are
-those of ASCII, and names are told apart by case. Outside of strings, quoted identifiers and comments each colon before
-a letter or `_` begins a name, so `x:LOOP` is refused, and `x: LOOP` is sent as it is.
+those of ASCII, and names are told apart by case. Each colon before a letter or `_` begins a name, except in strings,
+quoted identifiers and comments. So `x:LOOP` is refused, and `x: LOOP` is sent as it is.
 
 The library is the file that the environment variable MYSQL_PARAMS_LIBRARY names, by its path, else libmysql_params_c.so
 in the folder of this package; `bindings/build FOLDER` makes it. If there is none, or the processor lacks a feature
@@ -178,7 +178,8 @@ def first_unportable(query: Union[str, bytes], no_backslash_escape: bool = False
     portable. Ask it of each query, once, before you bind to it. What stands within strings, quoted identifiers and
     comments is none, except a quote after a backslash in a string in double quotes, a backslash before the end of an
     identifier, and a carriage return in a comment of one line, not at its end. A str is taken as its UTF-8, and
-    positions count its bytes. The flag is that of bind. Raise OutOfMemoryError, of a query with a capital in a name.
+    positions count its bytes. The flag is that of bind. Only a query with a capital in a name needs memory:
+    raise OutOfMemoryError if there is none.
 
     >>> found = first_unportable("SELECT /*! :a */ 1")
     >>> found.construct.name, found.position

@@ -18,8 +18,8 @@
 //! ```
 //!
 //! A name in a query is a colon, a letter or `_`, and all letters, digits and `_` that follow, as `:userId`. Letters are
-//! those of ASCII, and names are told apart by case. Outside of strings, quoted identifiers and comments each colon before
-//! a letter or `_` begins a name, so `x:LOOP` is refused, and `x: LOOP` is sent as it is.
+//! those of ASCII, and names are told apart by case. Each colon before a letter or `_` begins a name, except in strings,
+//! quoted identifiers and comments. So `x:LOOP` is refused, and `x: LOOP` is sent as it is.
 //!
 //! Threads may call at once, and all types are `Send` and `Sync`. The archive is for x86-64 Linux and processors with
 //! x86-64-v2; on others each call is [`Error::Processor`].
@@ -126,8 +126,8 @@ pub fn names_in(query: &[u8], no_backslash_escape: bool) -> Result<Names, Error>
 ///
 /// # Errors
 ///
-/// [`Error::OutOfMemory`], of a query with a capital in a name; [`Error::Processor`]; [`Error::UnknownAnswer`], from an
-/// archive that this crate wasn't written for.
+/// [`Error::OutOfMemory`], which only a query with a capital in a name can give; [`Error::Processor`];
+/// [`Error::UnknownAnswer`], from an archive that this crate wasn't written for.
 pub fn first_unportable(query: &[u8]) -> Result<Option<Unportable>, Error> {
     first_unportable_in(query, false)
 }
