@@ -1,6 +1,6 @@
 /* mysql_params.hpp: values bound into SQL queries from C++17, over mysql_params.h and mysql_params_form.h.
  *
- *     std::string text = mysql_params::bind("id = :id AND name = :name", {{"id", 42}, {"name", name}});
+ *     std::string text = mysql_params::bind_anywhere("id = :id AND name = :name", {{"id", 42}, {"name", name}});
  *     std::string text = mysql_params::bind("VALUES (?, ?)", {42, nullptr});
  *
  * All memory is owned by what is returned. Each call may throw std::bad_alloc; a refusal is thrown as mysql_params::Error.
@@ -98,13 +98,19 @@ template <typename T> inline constexpr bool is_double = std::is_same_v<T, double
 
 } // namespace detail
 
+/* An exact number, as Decimal("-1.50") or a whole number of any length. It borrows its digits, as a Value its bytes. */
+struct Decimal {
+    explicit Decimal(std::string_view text) noexcept : digits(text) {}
+    std::string_view digits;
+};
+
 /* A value for a place, made of a whole number, a bool (1 or 0), a float or a double, a text or bytes, nullptr or an empty
- * std::optional (NULL), a date or a time. It borrows its bytes: use it within the call that takes it. Write nullptr and not
- * the macro NULL, which may be bound as the number 0. A long double or a character doesn't compile.
+ * std::optional (NULL), a date, a time or a Decimal. It borrows its bytes: use it within the call that takes it. Write
+ * nullptr and not the macro NULL, which may be bound as the number 0. A long double or a character doesn't compile.
  *
- * bind_fragments and bind_fragments_anywhere write a float or a double as a number that a server reads as this DOUBLE,
- * 1.5e0, and refuse a NaN and an infinity as MYSQL_PARAMS_FLOAT: give nullptr. The other calls refuse each so. For an exact
- * number there is append_decimal. */
+ * bind_fragments and bind_fragments_anywhere write a Decimal bare, and a float or a double as a number that a server reads as
+ * this DOUBLE, 1.5e0; they refuse a NaN and an infinity as MYSQL_PARAMS_FLOAT: give nullptr. The other calls refuse each float
+ * so, and a Decimal as MYSQL_PARAMS_FORM_TYPE. */
 class Value {
 public:
     Value(std::nullptr_t) noexcept {}
@@ -133,6 +139,7 @@ public:
     }
     Value(const mysql_params_date &date) noexcept : held_(date) {}
     Value(const mysql_params_time &time) noexcept : held_(time) {}
+    Value(const Decimal &number) noexcept : held_(number) {}
     template <typename T>
     Value(const std::optional<T> &thing) : Value(thing ? Value(*thing) : Value(nullptr))
     {
@@ -145,7 +152,7 @@ private:
         throw std::invalid_argument("mysql_params: a text is a null pointer: nullptr itself is NULL");
     }
     std::variant<std::monostate, std::int64_t, std::uint64_t, double, std::string_view, mysql_params_date,
-                 mysql_params_time>
+                 mysql_params_time, Decimal>
         held_;
 };
 
@@ -188,12 +195,21 @@ public:
      * number, as "-1.50". */
     Form &append_decimal(const char *name, const std::string &digits)
     {
-        return fitting(mysql_params_append_decimal(&form_, name, whole(digits)));
+        return append_as(name, Decimal(digits));
     }
     /* The name of a table or a column. */
     Form &append_identifier(const char *name, const std::string &identifier)
     {
         return fitting(mysql_params_append_identifier(&form_, name, whole(identifier)));
+    }
+    /* The name of what is in something else, as {"shop", "t"} of a table in a database. */
+    Form &append_qualified(const char *name, const std::vector<std::string> &identifiers)
+    {
+        std::vector<const char *> texts;
+        for (const std::string &identifier : identifiers)
+            texts.push_back(whole(identifier));
+        const auto count = static_cast<std::uint32_t>(texts.size());
+        return fitting(count == texts.size() && mysql_params_append_qualified(&form_, name, texts.data(), count));
     }
     /* A keyword that the program has, as "DESC": never a text from outside. */
     Form &append_keyword(const char *name, const char *keyword)
@@ -254,6 +270,8 @@ private:
                     return mysql_params_append_bytes(&form_, name, held.data(), held.size());
                 else if constexpr (std::is_same_v<T, mysql_params_date>)
                     return mysql_params_append_date(&form_, name, held);
+                else if constexpr (std::is_same_v<T, Decimal>)
+                    return mysql_params_append_decimal(&form_, name, whole(std::string(held.digits)));
                 else
                     return mysql_params_append_time(&form_, name, held);
             },
@@ -307,14 +325,14 @@ template <typename Call> std::string whole_answer(std::size_t guess, Call call)
     }
 }
 
-struct Bind {
+/* A call that binds a form to a query: `call` takes the room, its length and the report. */
+template <typename Call> struct Binding {
     std::string_view query;
     const mysql_params_form &form;
-    bool no_backslash_escape;
+    Call call;
     std::int32_t operator()(std::uint8_t *room, std::size_t room_len, mysql_params_report *report) const
     {
-        return mysql_params_bind_wide(bytes_of(query), query.size(), form.room, form.len, no_backslash_escape, room, room_len,
-                                      report);
+        return call(room, room_len, report);
     }
     [[noreturn]] void refuse(std::int32_t number, const mysql_params_report &report) const
     {
@@ -323,29 +341,30 @@ struct Bind {
     }
 };
 
-struct BindFragments : Bind {
-    std::int32_t operator()(std::uint8_t *room, std::size_t room_len, mysql_params_report *report) const
-    {
-        return mysql_params_bind_fragments_wide(bytes_of(query), query.size(), form.room, form.len, no_backslash_escape, room,
-                                                room_len, report);
-    }
-};
+/* The text that such a call gives. */
+template <typename Call> std::string bound(std::string_view query, const mysql_params_form &form, Call call)
+{
+    return whole_answer(query.size() + 2 * form.len + 64, Binding<Call>{query, form, call});
+}
 
-struct BindFragmentsAnywhere : Bind {
-    std::int32_t operator()(std::uint8_t *room, std::size_t room_len, mysql_params_report *report) const
-    {
-        return mysql_params_bind_fragments_anywhere_wide(bytes_of(query), query.size(), form.room, form.len, room, room_len,
-                                                         report);
-    }
-};
+/* That of a call in a mode. */
+inline std::string bound_in(decltype(mysql_params_bind_wide) *bind, std::string_view query, const Form &form, Mode mode)
+{
+    const mysql_params_form &flat = form.get();
+    return bound(query, flat, [=](std::uint8_t *room, std::size_t room_len, mysql_params_report *report) {
+        return bind(bytes_of(query), query.size(), flat.room, flat.len, mode == Mode::no_backslash_escapes, room, room_len,
+                    report);
+    });
+}
 
-struct BindTemplate : Bind {
-    const mysql_params_template *made;
-    std::int32_t operator()(std::uint8_t *room, std::size_t room_len, mysql_params_report *report) const
-    {
-        return mysql_params_template_bind(made, form.room, form.len, room, room_len, report);
-    }
-};
+/* That of a call in no mode. */
+inline std::string bound_anywhere(decltype(mysql_params_bind_anywhere_wide) *bind, std::string_view query, const Form &form)
+{
+    const mysql_params_form &flat = form.get();
+    return bound(query, flat, [=](std::uint8_t *room, std::size_t room_len, mysql_params_report *report) {
+        return bind(bytes_of(query), query.size(), flat.room, flat.len, room, room_len, report);
+    });
+}
 
 /* The forms of rows, each as a length-encoded string. */
 class RowForms {
@@ -449,26 +468,33 @@ template <typename Find> std::optional<Unportable> found(Find find, std::string_
  * before. Throws Error. */
 inline std::string bind(std::string_view query, const Form &form = {}, Mode mode = Mode::backslash_escapes)
 {
-    const mysql_params_form &flat = form.get();
-    return detail::whole_answer(query.size() + 2 * flat.len + 64,
-                                detail::Bind{query, flat, mode == Mode::no_backslash_escapes});
+    return detail::bound_in(mysql_params_bind_wide, query, form, mode);
 }
 
 /* The same of a form that has doubles, lists, rows, exact numbers, identifiers or keywords too. Throws Error. */
 inline std::string bind_fragments(std::string_view query, const Form &form, Mode mode = Mode::backslash_escapes)
 {
-    const mysql_params_form &flat = form.get();
-    return detail::whole_answer(query.size() + 2 * flat.len + 64,
-                                detail::BindFragments{{query, flat, mode == Mode::no_backslash_escapes}});
+    return detail::bound_in(mysql_params_bind_fragments_wide, query, form, mode);
 }
 
-/* A text of such a form that no sql_mode and no character set reads otherwise, on MySQL or MariaDB. The query and the
- * identifiers have to be ASCII without a backslash, and the query portable. It takes a form of values alone too. Throws
- * Error. */
+/* As bind, with a text that no sql_mode and no character set reads otherwise, on MySQL or MariaDB. The query has to be ASCII
+ * without a backslash, and portable, for which it is asked. Throws Error. */
+inline std::string bind_anywhere(std::string_view query, const Form &form = {})
+{
+    return detail::bound_anywhere(mysql_params_bind_anywhere_wide, query, form);
+}
+
+/* As bind_anywhere, of a form as for bind_fragments. An identifier has to be ASCII without a backslash too. Throws Error. */
 inline std::string bind_fragments_anywhere(std::string_view query, const Form &form = {})
 {
-    const mysql_params_form &flat = form.get();
-    return detail::whole_answer(query.size() + 2 * flat.len + 64, detail::BindFragmentsAnywhere{{query, flat, false}});
+    return detail::bound_anywhere(mysql_params_bind_fragments_anywhere_wide, query, form);
+}
+
+/* As bind_anywhere, of a query that may have bytes from 128 on. The connection's character set has to be that of the query,
+ * utf8mb4 for UTF-8, and no string of the query may hold a backslash. Throws Error. */
+inline std::string bind_in_both_modes(std::string_view query, const Form &form = {})
+{
+    return detail::bound_anywhere(mysql_params_bind_in_both_modes_wide, query, form);
 }
 
 /* The text of each row: what bind gives for the query and the row, a Form. Rows are a std::vector<Form>, or anything else
@@ -495,8 +521,9 @@ public:
     std::string bind(const Form &form = {}) const
     {
         const mysql_params_form &flat = form.get();
-        return detail::whole_answer(query().size() + 2 * flat.len + 64,
-                                    detail::BindTemplate{{query(), flat, escapes_nothing()}, made_.get()});
+        return detail::bound(query(), flat, [&](std::uint8_t *room, std::size_t room_len, mysql_params_report *report) {
+            return mysql_params_template_bind(made_.get(), flat.room, flat.len, room, room_len, report);
+        });
     }
     /* What bind_rows gives for the query in its mode. That finds the places once for all rows by itself, and not by the
      * template's table. Throws RowError. */

@@ -166,6 +166,29 @@ static void fragments()
     same(thrown([] { mysql_params::Form().append_identifier("t", "a\0b"s); }), "invalid argument");
 }
 
+/* What is exact, alone and in lists and rows, and a name in another. */
+static void exact_numbers_and_names()
+{
+    using mysql_params::bind_fragments;
+    using mysql_params::Decimal;
+    same(bind_fragments("?", {Decimal("-1.50")}), "-1.50");
+    same(bind_fragments(":a, :b", {{"a", Decimal("12345678901234567890123")}, {"b", std::optional<Decimal>()}}),
+         "12345678901234567890123, NULL");
+    mysql_params::Form form;
+    form.append_rows("rows", std::vector<std::vector<Value>>{{1, "a", Decimal("9.99")}, {2, "b", nullptr}});
+    form.append_list("prices", std::vector<Decimal>{Decimal("0.10"), Decimal("7")});
+    form.append_qualified("t", {"shop", "acme`2"});
+    same(bind_fragments(":t :rows IN (:prices)", form), "`shop`.`acme``2` (1, 'a', 9.99), (2, 'b', NULL) IN (0.10, 7)");
+    same(mysql_params::bind_fragments_anywhere("?", {Decimal("0.5")}), "0.5");
+    same(thrown([] { bind("?", {Decimal("1.5")}); }), "5 Parameter 0 at byte 0 of the form: Unsupported column type 128");
+    same(thrown([] { bind_fragments("?", {Decimal("1,5")}); }),
+         "17 Fragment at place 0 can't be written: item 0 of row 0 is no exact number");
+    same(thrown([] { bind_fragments("?", {Decimal("1\0"sv)}); }), "invalid argument");
+    same(thrown([] { mysql_params::Form().append_qualified(nullptr, {"shop", "a\0b"s}); }), "invalid argument");
+    same(thrown([] { bind_fragments("?", mysql_params::Form().append_qualified(nullptr, {})); }),
+         "17 Fragment at place 0 can't be written: it is empty");
+}
+
 /* What a call of rows throws: the row, how many texts stand before it, and the message. */
 template <typename Call> static std::string row_thrown(Call call)
 {
@@ -202,6 +225,23 @@ static void floats()
     rows[0].append(1);
     rows.push_back({1.5});
     same(row_thrown([&] { mysql_params::bind_rows("?", rows); }), "1 1 row 1: Float at place 0");
+}
+
+/* Steady texts. They follow "Steady binding" in docs/RULES.md. */
+static void steady_texts()
+{
+    using mysql_params::bind_anywhere;
+    using mysql_params::bind_in_both_modes;
+    same(bind_anywhere("SELECT ?, ?, ?", {42, "it's", "\xC3\xA9"}), "SELECT 42, _utf8mb4'it''s', _utf8mb4 0xC3A9");
+    same(bind_anywhere(":Id", {{"Id", nullptr}}), "NULL");
+    same(bind_anywhere("SELECT 1"), "SELECT 1");
+    same(bind_in_both_modes("SELECT '\xC3\xBC', :a", {{"a", "it's"}}), "SELECT '\xC3\xBC', _utf8mb4'it''s'");
+    same(bind_in_both_modes("SELECT 1"), "SELECT 1");
+    same(thrown([] { bind_anywhere("?", {1.5}); }), "14 Float at place 0");
+    same(thrown([] { bind_in_both_modes("SELECT '\\', ?", {1}); }), "18 Backslash in a string at byte 8 of the query");
+    same(thrown([] { bind_anywhere("[a], :a", {{"a", 1}}); }),
+         "16 Not portable at byte 0 of the query: `[` may open an identifier: write the name in backquotes");
+    same(thrown([] { bind_anywhere(":a", {{"a", 1}, {"a", 2}}); }), "7 Redefinition of named parameter `a'");
 }
 
 /* Fragments in steady texts. */
@@ -406,6 +446,18 @@ static void try_fragments(const test_case *it)
     try_case(*it, [&] { return mysql_params::bind_fragments(view(it->query), form, mode_of(*it)); });
 }
 
+static void try_anywhere(const test_case *it)
+{
+    const Form form = form_of(view(it->form));
+    try_case(*it, [&] { return mysql_params::bind_anywhere(view(it->query), form); });
+}
+
+static void try_in_both_modes(const test_case *it)
+{
+    const Form form = form_of(view(it->form));
+    try_case(*it, [&] { return mysql_params::bind_in_both_modes(view(it->query), form); });
+}
+
 static void try_fragments_anywhere(const test_case *it)
 {
     const Form form = form_of(view(it->form));
@@ -477,7 +529,9 @@ static void cases()
     for (const std::string in : {"", "wide/"}) {
         each_case(folder, (in + "bind.txt").c_str(), try_bind);
         each_case(folder, (in + "fragments.txt").c_str(), try_fragments);
+        each_case(folder, (in + "anywhere.txt").c_str(), try_anywhere);
         each_case(folder, (in + "anywhere.txt").c_str(), try_fragments_anywhere);
+        each_case(folder, (in + "both_modes.txt").c_str(), try_in_both_modes);
         each_case(folder, (in + "fragments_anywhere.txt").c_str(), try_fragments_anywhere);
         each_case(folder, (in + "names.txt").c_str(), try_names);
         each_case(folder, (in + "rows.txt").c_str(), try_rows);
@@ -508,7 +562,9 @@ int main(int count, char **words)
     all &= passed("refusals", refusals);
     all &= passed("queries", queries);
     all &= passed("fragments", fragments);
+    all &= passed("exact_numbers_and_names", exact_numbers_and_names);
     all &= passed("floats", floats);
+    all &= passed("steady_texts", steady_texts);
     all &= passed("steady_fragments", steady_fragments);
     all &= passed("rows", rows);
     all &= passed("templates", templates);
