@@ -1,5 +1,5 @@
 //! The calls of the archive, and their answers.
-use crate::{Construct, Error, Fault, Unportable, names_in, words};
+use crate::{Construct, Error, Fault, Name, Unportable, names_in, words};
 use std::arch::is_x86_feature_detected;
 
 /// What a call says beside its number: `mysql_params_report` of mysql_params.h.
@@ -293,7 +293,7 @@ impl Call<'_> {
     }
 
     /// The bytes of the query or the form that a report tells.
-    fn name(self, number: i32, report: &Report) -> Result<Vec<u8>, Error> {
+    fn name(self, number: i32, report: &Report) -> Result<Name, Error> {
         let source = match self {
             Call::Bind { form, .. }
             | Call::BindTemplate { form, .. }
@@ -309,7 +309,7 @@ impl Call<'_> {
         };
         let end = report.position.checked_add(report.len);
         let name = end.and_then(|end| source.get(report.position..end));
-        copy_of(name.ok_or(Error::UnknownAnswer { number })?)
+        copy_of(name.ok_or(Error::UnknownAnswer { number })?).map(Name::from)
     }
 
     /// The error that a number with its report is, for any number but `DONE`.
@@ -658,7 +658,7 @@ pub(crate) fn copy_of(bytes: &[u8]) -> Result<Vec<u8>, Error> {
     Ok(copy)
 }
 
-/// A copy of bytes, if there are any, or out of memory.
-fn copy_of_any(bytes: Option<&[u8]>) -> Result<Option<Vec<u8>>, Error> {
-    bytes.map(copy_of).transpose()
+/// A copy of a word, if there is one, or out of memory.
+fn copy_of_any(word: Option<&[u8]>) -> Result<Option<Name>, Error> {
+    word.map(|word| copy_of(word).map(Name::from)).transpose()
 }

@@ -1,5 +1,6 @@
 //! Refusals, and their messages.
-use crate::{Fault, Unportable, words};
+use crate::name::Shown;
+use crate::{Fault, Name, Unportable, words};
 use std::fmt;
 
 /// Why a query is refused. Numbers of places, parameters and bytes begin at 0.
@@ -58,7 +59,7 @@ pub enum Error {
         /// Byte of the form at which its name begins.
         position: usize,
         /// The name.
-        name: Vec<u8>,
+        name: Name,
     },
     /// The query has names and marks.
     Mixed,
@@ -69,14 +70,14 @@ pub enum Error {
         /// Byte of the query at which the name begins there, after its colon.
         position: usize,
         /// The name.
-        name: Vec<u8>,
+        name: Name,
         /// The word that begins with the name there, if it is longer.
-        word: Option<Vec<u8>>,
+        word: Option<Name>,
     },
     /// The parameters have names, and the query has none.
     NamedForPositional {
         /// The first word that begins with a letter that no name has, if there is one.
-        word: Option<Vec<u8>>,
+        word: Option<Name>,
     },
     /// The parameters have no names, and the query has some.
     PositionalForNamed,
@@ -94,7 +95,7 @@ pub enum Error {
         /// Byte of the query at which the place begins.
         position: usize,
         /// The word that begins with the name of the place, if it has one and the word is longer.
-        word: Option<Vec<u8>>,
+        word: Option<Name>,
     },
     /// The value for a place is a floating-point number. [`bind_fragments`](crate::bind_fragments) and
     /// [`bind_fragments_anywhere`](crate::bind_fragments_anywhere) refuse a NaN and an infinity so, alone or in a list or
@@ -145,34 +146,17 @@ pub enum Error {
     },
 }
 
-/// A name as messages show it: a byte that isn't printable ASCII, `"` and `\` as `\x` and two digits.
-struct Shown<'a>(&'a [u8]);
-
-impl fmt::Display for Shown<'_> {
-    fn fmt(&self, f: &mut fmt::Formatter<'_>) -> fmt::Result {
-        for byte in self.0 {
-            match byte {
-                b'"' | b'\\' => write!(f, "\\x{byte:02x}")?,
-                32..=126 => write!(f, "{}", char::from(*byte))?,
-                _ => write!(f, "\\x{byte:02x}")?,
-            }
-        }
-        Ok(())
-    }
-}
-
 /// What names are of, if a word of the query shows that it matters.
-struct Alphabet<'a>(&'a Option<Vec<u8>>);
+struct Alphabet<'a>(&'a Option<Name>);
 
 impl fmt::Display for Alphabet<'_> {
     fn fmt(&self, f: &mut fmt::Formatter<'_>) -> fmt::Result {
         let Some(word) = self.0 else {
             return Ok(());
         };
-        let shown = Shown(word);
         write!(
             f,
-            ": names are of ASCII letters, digits and _, so `:{shown}` "
+            ": names are of ASCII letters, digits and _, so `:{word}` "
         )?;
         match words::name_of(word) {
             b"" => write!(f, "is none"),
@@ -251,11 +235,11 @@ impl fmt::Display for Error {
             }
             Error::FormMixed { .. } => write!(f, "Named and positional params in one form"),
             Error::RepeatedName { name, .. } => {
-                write!(f, "Redefinition of named parameter `{}'", Shown(name))
+                write!(f, "Redefinition of named parameter `{name}'")
             }
             Error::Mixed => write!(f, "Named and positional params in one query"),
             Error::Missing { name, word, .. } => {
-                let (name, more) = (Shown(name), Alphabet(word));
+                let more = Alphabet(word);
                 write!(f, "Missing named parameter `{name}` for statement{more}")
             }
             Error::NamedForPositional { word } => {

@@ -31,6 +31,7 @@ mod error;
 mod form;
 mod fragment;
 mod macros;
+mod name;
 mod portable;
 mod rows;
 mod template;
@@ -42,12 +43,14 @@ mod words;
 pub use duration::DurationTooLong;
 pub use error::Error;
 pub use fragment::{Fault, Fragment, Fragments, Item};
+pub use name::Name;
 pub use portable::{Construct, Unportable};
-pub use rows::{RowError, Texts, TextsIter, bind_rows, bind_rows_in};
+pub use rows::{Row, RowError, Texts, TextsIter, bind_rows, bind_rows_in};
 pub use template::Template;
 pub use value::{Date, Params, Time, Value};
 
 use archive::{Call, Reader, copy_of};
+use std::fmt;
 
 /// The examples of README.md, as tests.
 #[cfg(doctest)]
@@ -56,19 +59,28 @@ struct Readme;
 
 const _: () = {
     const fn is_send_and_sync<T: Send + Sync>() {}
-    is_send_and_sync::<(Construct, Date, Error, Names, Params<'_>)>();
+    is_send_and_sync::<(Construct, Date, Error, Name, Names, Params<'_>)>();
     is_send_and_sync::<(Fault, Fragment<'_>, Fragments<'_>, Item<'_>)>();
     is_send_and_sync::<(RowError, Template, Texts, TextsIter<'_>)>();
     is_send_and_sync::<(Time, Unportable, Value<'_>)>();
 };
 
 /// The names of a query.
-#[derive(Clone, Debug, PartialEq, Eq)]
+#[derive(Clone, PartialEq, Eq)]
 pub struct Names {
     /// The query with `?` in the place of each name.
     pub query: Vec<u8>,
     /// The names without their colons, in order, with repeats. A query can only have names of ASCII.
     pub names: Vec<String>,
+}
+
+impl fmt::Debug for Names {
+    fn fmt(&self, f: &mut fmt::Formatter<'_>) -> fmt::Result {
+        let query = format_args!("b\"{}\"", self.query.escape_ascii());
+        let mut fields = f.debug_struct("Names");
+        fields.field("query", &query).field("names", &self.names);
+        fields.finish()
+    }
 }
 
 /// The room of a first call beside the bytes that are sure to be needed.
@@ -340,8 +352,85 @@ pub fn bind_str_in(
     params: &Params<'_>,
     no_backslash_escape: bool,
 ) -> Result<String, Error> {
-    let text = bind_in(query.as_bytes(), params, no_backslash_escape)?;
-    String::from_utf8(text).map_err(|_| Error::UnknownAnswer {
+    text_of(bind_in(query.as_bytes(), params, no_backslash_escape)?)
+}
+
+/// As [`bind_fragments`], of a query that is a `str`, with a text that is one too, as of [`bind_str`].
+///
+/// ```
+/// use mysql_params::{Fragment, Fragments, bind_fragments_str};
+///
+/// let given = [("names", vec!["é", "it's"].into()), ("column", Fragment::Identifier("größe"))];
+/// let text = bind_fragments_str("name IN (:names) ORDER BY :column", &Fragments::Named(&given))?;
+/// assert_eq!(text, r"name IN ('é', 'it\'s') ORDER BY `größe`");
+/// # Ok::<(), mysql_params::Error>(())
+/// ```
+///
+/// # Errors
+///
+/// Those of [`bind_fragments`], and [`Error::UnknownAnswer`] as of [`bind_str`].
+pub fn bind_fragments_str(query: &str, fragments: &Fragments<'_>) -> Result<String, Error> {
+    bind_fragments_str_in(query, fragments, false)
+}
+
+/// As [`bind_fragments_str`], for a connection in either mode, as [`bind_in`].
+///
+/// # Errors
+///
+/// Those of [`bind_fragments_str`].
+pub fn bind_fragments_str_in(
+    query: &str,
+    fragments: &Fragments<'_>,
+    no_backslash_escape: bool,
+) -> Result<String, Error> {
+    text_of(bind_fragments_in(
+        query.as_bytes(),
+        fragments,
+        no_backslash_escape,
+    )?)
+}
+
+/// As [`bind_anywhere`], of a query that is a `str`, with a text that is one too, as of [`bind_str`].
+///
+/// ```
+/// use mysql_params::{bind_anywhere_str, params};
+///
+/// let text = bind_anywhere_str("name = :name", &params! { "name" => "it's" })?;
+/// assert_eq!(text, "name = _utf8mb4'it''s'");
+/// # Ok::<(), mysql_params::Error>(())
+/// ```
+///
+/// # Errors
+///
+/// Those of [`bind_anywhere`], and [`Error::UnknownAnswer`] as of [`bind_str`].
+pub fn bind_anywhere_str(query: &str, params: &Params<'_>) -> Result<String, Error> {
+    text_of(bind_anywhere(query.as_bytes(), params)?)
+}
+
+/// As [`bind_fragments_anywhere`], of a query that is a `str`, with a text that is one too, as of [`bind_str`].
+///
+/// # Errors
+///
+/// Those of [`bind_fragments_anywhere`], and [`Error::UnknownAnswer`] as of [`bind_str`].
+pub fn bind_fragments_anywhere_str(
+    query: &str,
+    fragments: &Fragments<'_>,
+) -> Result<String, Error> {
+    text_of(bind_fragments_anywhere(query.as_bytes(), fragments)?)
+}
+
+/// As [`bind_in_both_modes`], of a query that is a `str`, with a text that is one too, as of [`bind_str`].
+///
+/// # Errors
+///
+/// Those of [`bind_in_both_modes`], and [`Error::UnknownAnswer`] as of [`bind_str`].
+pub fn bind_in_both_modes_str(query: &str, params: &Params<'_>) -> Result<String, Error> {
+    text_of(bind_in_both_modes(query.as_bytes(), params)?)
+}
+
+/// The text of a query that is a `str`, from the archive's bytes.
+fn text_of(bytes: Vec<u8>) -> Result<String, Error> {
+    String::from_utf8(bytes).map_err(|_| Error::UnknownAnswer {
         number: archive::DONE,
     })
 }

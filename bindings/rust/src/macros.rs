@@ -1,8 +1,9 @@
-//! The macro that writes parameters.
+//! The macros that write parameters.
 
 /// Parameters as they are written: by name, in order, or none. Each value is made by `Value::from`.
 ///
-/// It borrows what it makes, so write it within the call.
+/// It borrows what it makes, so write it within the call. What a closure returns for
+/// [`bind_rows`](crate::bind_rows) is a [`row!`](crate::row), which owns it.
 ///
 /// ```
 /// use mysql_params::{bind_str, params};
@@ -30,5 +31,36 @@ macro_rules! params {
     };
     ($($value:expr),+ $(,)?) => {
         $crate::Params::Positional(&[$($crate::Value::from($value)),+])
+    };
+}
+
+/// The parameters of a row, as [`params!`](crate::params) writes them: an array of values or of pairs, which a closure may
+/// return. It owns the values, which borrow their texts.
+///
+/// ```
+/// use mysql_params::{bind_rows, row};
+///
+/// let texts = bind_rows(b"VALUES (?, ?)", [1, 2].into_iter().map(|id| row![id, "x"]))?;
+/// assert!(texts.iter().eq([b"VALUES (1, 'x')", b"VALUES (2, 'x')"]));
+/// # Ok::<(), mysql_params::RowError>(())
+/// ```
+///
+/// With `params!` that closure doesn't compile, since it would return what it borrows:
+///
+/// ```compile_fail
+/// use mysql_params::{bind_rows, params};
+///
+/// bind_rows(b"VALUES (?, ?)", [1, 2].into_iter().map(|id| params![id, "x"]));
+/// ```
+#[macro_export]
+macro_rules! row {
+    () => {
+        $crate::Params::Empty
+    };
+    ($($name:expr => $value:expr),+ $(,)?) => {
+        [$(($name, $crate::Value::from($value))),+]
+    };
+    ($($value:expr),+ $(,)?) => {
+        [$($crate::Value::from($value)),+]
     };
 }

@@ -1,16 +1,15 @@
 //! Rows: one query bound many times.
 use crate::archive::{TextRoom, processor_suffices};
-use crate::{Error, Params, form};
+use crate::{Error, Params, Value, form};
 use std::fmt;
 use std::iter::FusedIterator;
 
 /// The texts of rows, in one block of memory. They are taken out in order:
 ///
 /// ```
-/// use mysql_params::{Params, bind_rows};
+/// use mysql_params::{bind_rows, row};
 ///
-/// let rows = [1, 2].map(|id| [id.into()]);
-/// let texts = bind_rows(b"SELECT ?", rows.iter().map(|row| Params::Positional(row)))?;
+/// let texts = bind_rows(b"SELECT ?", [row![1], row![2]])?;
 /// assert!(texts.iter().eq([b"SELECT 1", b"SELECT 2"]));
 /// # Ok::<(), mysql_params::RowError>(())
 /// ```
@@ -102,19 +101,86 @@ impl std::error::Error for RowError {
     }
 }
 
+/// What gives the parameters of a row: [`Params`], or an array or a vector of values or of pairs, as
+/// [`row!`](crate::row) writes one.
+pub trait Row {
+    /// The parameters.
+    fn params(&self) -> Params<'_>;
+}
+
+impl Row for Params<'_> {
+    fn params(&self) -> Params<'_> {
+        *self
+    }
+}
+
+impl<R: Row + ?Sized> Row for &R {
+    fn params(&self) -> Params<'_> {
+        (**self).params()
+    }
+}
+
+impl Row for [Value<'_>] {
+    fn params(&self) -> Params<'_> {
+        Params::Positional(self)
+    }
+}
+
+impl<const N: usize> Row for [Value<'_>; N] {
+    fn params(&self) -> Params<'_> {
+        Params::Positional(self)
+    }
+}
+
+impl Row for Vec<Value<'_>> {
+    fn params(&self) -> Params<'_> {
+        Params::Positional(self)
+    }
+}
+
+impl Row for [(&str, Value<'_>)] {
+    fn params(&self) -> Params<'_> {
+        Params::Named(self)
+    }
+}
+
+impl<const N: usize> Row for [(&str, Value<'_>); N] {
+    fn params(&self) -> Params<'_> {
+        Params::Named(self)
+    }
+}
+
+impl Row for Vec<(&str, Value<'_>)> {
+    fn params(&self) -> Params<'_> {
+        Params::Named(self)
+    }
+}
+
 /// Once the forms of rows have so many bytes, they are bound; so they take no more memory, however many rows there are.
 const BATCH: usize = 1 << 18;
 
 /// The text of each row: what [`bind`](crate::bind) gives for the query and the row's parameters. The query is parsed
 /// once for many rows. Ask [`first_unportable`](crate::first_unportable) of it before.
 ///
+/// A closure makes the rows of what you have by [`row!`](crate::row):
+///
+/// ```
+/// use mysql_params::{bind_rows, row};
+///
+/// let users = [(7, String::from("it's")), (8, String::from("b"))];
+/// let rows = users.iter().map(|(id, name)| row! { "id" => *id, "name" => name });
+/// let texts = bind_rows(b"INSERT INTO t VALUES (:id, :name)", rows)?;
+/// assert!(texts.iter().eq([&br"INSERT INTO t VALUES (7, 'it\'s')"[..], b"INSERT INTO t VALUES (8, 'b')"]));
+/// # Ok::<(), mysql_params::RowError>(())
+/// ```
+///
 /// # Errors
 ///
 /// For the first row that is refused: the error is that of [`bind`](crate::bind), and the rows before it are kept. Without
 /// rows nothing is refused.
-pub fn bind_rows<'p>(
+pub fn bind_rows(
     query: &[u8],
-    rows: impl IntoIterator<Item = Params<'p>>,
+    rows: impl IntoIterator<Item = impl Row>,
 ) -> Result<Texts, RowError> {
     bind_rows_in(query, rows, false)
 }
@@ -124,9 +190,9 @@ pub fn bind_rows<'p>(
 /// # Errors
 ///
 /// Those of [`bind_rows`].
-pub fn bind_rows_in<'p>(
+pub fn bind_rows_in(
     query: &[u8],
-    rows: impl IntoIterator<Item = Params<'p>>,
+    rows: impl IntoIterator<Item = impl Row>,
     no_backslash_escape: bool,
 ) -> Result<Texts, RowError> {
     let mut room = TextRoom::default();
@@ -141,19 +207,20 @@ pub fn bind_rows_in<'p>(
 }
 
 /// Appends the texts of all rows, or of those before the first that is refused.
-fn append_rows<'p>(
+fn append_rows(
     room: &mut TextRoom,
     query: &[u8],
-    rows: impl IntoIterator<Item = Params<'p>>,
+    rows: impl IntoIterator<Item = impl Row>,
     no_backslash_escape: bool,
 ) -> Result<(), Error> {
     if !processor_suffices() {
         return Err(Error::Processor);
     }
     let mut forms = Vec::new();
-    for params in rows {
+    for row in rows {
         let before = forms.len();
-        let form = form::form_of(&params).and_then(|form| form::append_string(&mut forms, &form));
+        let form =
+            form::form_of(&row.params()).and_then(|form| form::append_string(&mut forms, &form));
         if form.is_err() {
             // Memory may have failed behind the length of a row that isn't there.
             forms.truncate(before);

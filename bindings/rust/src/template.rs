@@ -1,6 +1,6 @@
 //! A query whose places are found once.
 use crate::archive::{Call, Table, copy_of};
-use crate::{Error, Params, RowError, Texts, bind_rows_in, bound_guess, form};
+use crate::{Error, Params, Row, RowError, Texts, bind_rows_in, bound_guess, form};
 
 /// A query whose names and marks are found once, to bind it many times: it gives what [`bind`](crate::bind) gives, without
 /// a walk of the query. It owns the query, and binding it changes nothing, so that many threads may do so at once.
@@ -78,10 +78,7 @@ impl Template {
     /// # Errors
     ///
     /// Those of [`bind_rows`](crate::bind_rows).
-    pub fn bind_rows<'p>(
-        &self,
-        rows: impl IntoIterator<Item = Params<'p>>,
-    ) -> Result<Texts, RowError> {
+    pub fn bind_rows(&self, rows: impl IntoIterator<Item = impl Row>) -> Result<Texts, RowError> {
         bind_rows_in(&self.query, rows, self.no_backslash_escape)
     }
 

@@ -5,7 +5,7 @@ use mysql_params::{
     bind_form_in, bind_form_in_both_modes, bind_fragments, bind_fragments_anywhere,
     bind_fragments_in, bind_in, bind_in_both_modes, bind_rows, bind_rows_in, bind_str, bind_str_in,
     first_unportable, first_unportable_in, first_unportable_in_client,
-    first_unportable_in_client_in, names, names_in,
+    first_unportable_in_client_in, names, names_in, row,
 };
 use std::collections::HashMap;
 use std::path::Path;
@@ -269,7 +269,7 @@ fn wanted_error(case: &Case) -> Error {
         number(fields.get("byte").map_or("0", String::as_str)),
     );
     let told = bytes(fields.get("name").map_or("", String::as_str));
-    let word = fields.get("word").map(|word| bytes(word));
+    let word = fields.get("word").map(|word| bytes(word).into());
     match name.as_str() {
         "FORM_END" => Error::FormEnd {
             parameter,
@@ -292,13 +292,13 @@ fn wanted_error(case: &Case) -> Error {
         "FORM_REPEATED" => Error::RepeatedName {
             parameter,
             position,
-            name: told,
+            name: told.into(),
         },
         "MIXED" => Error::Mixed,
         "MISSING" => Error::Missing {
             place,
             position,
-            name: told,
+            name: told.into(),
             word,
         },
         "NAMED_FOR_POSITIONAL" => Error::NamedForPositional { word },
@@ -599,7 +599,7 @@ fn rows_that_end_early() {
         (1, Error::EmptyName { parameter: 0 })
     );
     assert!((&refused.texts).into_iter().eq([b"NULL"]));
-    assert_eq!(bind_rows(b":a ?", []), Ok(Texts::default()));
+    assert_eq!(bind_rows(b":a ?", [row![]; 0]), Ok(Texts::default()));
 }
 
 #[test]
