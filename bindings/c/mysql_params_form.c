@@ -517,15 +517,34 @@ static void append_alphabet(line *to, const uint8_t *query, size_t query_len, si
         append_byte(to, '`');
 }
 
-/* Appends what names are of, if that may be why the query is refused. */
+/* Returns whether a point stands directly before or after the place at a byte of the query, as in `b.:c`. */
+static bool is_beside_point(const line *to, const uint8_t *query, size_t query_len, size_t at)
+{
+    size_t end = at + 1;
+    while (query[at] == ':' && end < query_len && is_of_names(to, query[end]))
+        end++;
+    return (at > 0 && query[at - 1] == '.') || (end < query_len && query[end] == '.');
+}
+
+/* Appends what may be why the place at a byte of the query doesn't stand alone. */
+static void append_neighbour(line *to, const uint8_t *query, size_t query_len, size_t at)
+{
+    size_t before = to->len;
+    if (query[at] == ':')
+        append_alphabet(to, query, query_len, at + 1);
+    if (to->len == before && is_beside_point(to, query, query_len, at))
+        append_text(to, ": for a name with a point write one place, and give an identifier of two names");
+}
+
+/* Appends what may be why the query is refused, as what names are of. */
 static void append_hint(line *to, int32_t number, const mysql_params_report *report,
                         const uint8_t *query, size_t query_len)
 {
     size_t at = report->position;
     if (number == MYSQL_PARAMS_MISSING) {
         append_alphabet(to, query, query_len, at);
-    } else if (number == MYSQL_PARAMS_NOT_ALONE && at < query_len && query[at] == ':') {
-        append_alphabet(to, query, query_len, at + 1);
+    } else if (number == MYSQL_PARAMS_NOT_ALONE && at < query_len) {
+        append_neighbour(to, query, query_len, at);
     } else if (number == MYSQL_PARAMS_NAMED_FOR_POSITIONAL) {
         for (at = 1; at < query_len; at++)
             if (query[at - 1] == ':' && is_other_letter(to, query[at])) {
@@ -601,7 +620,8 @@ static void append_of_numbers(line *to, int32_t number, const mysql_params_repor
         append_text(to, "Float at place %zu", report->place);
         return;
     case MYSQL_PARAMS_UNSTEADY:
-        append_text(to, "Backslash or byte that is not ASCII at byte %zu of the query", report->position);
+        append_text(to, "Backslash or byte that is not ASCII at byte %zu of the query: ", report->position);
+        append_text(to, "over utf8mb4 bind_in_both_modes takes it, except a backslash in a string");
         return;
     case MYSQL_PARAMS_BACKSLASH:
         append_text(to, "Backslash in a string at byte %zu of the query", report->position);
@@ -652,7 +672,7 @@ static void append_fault(line *to, const mysql_params_report *report)
         append_text(to, "name %zu ends in a space", report->values);
         return;
     case MYSQL_PARAMS_FAULT_KEYWORD:
-        append_text(to, "it is none of the keywords that are written");
+        append_text(to, "it is none of the keywords in capitals that README lists");
         return;
     case MYSQL_PARAMS_FAULT_BACKSLASH:
         append_text(to, "name %zu has a backslash before a backquote or at its end", report->values);

@@ -115,7 +115,7 @@ bool mysql_params_append_identifier(mysql_params_form *form, const char *name, c
 bool mysql_params_append_qualified(mysql_params_form *form, const char *name, const char *const *identifiers,
                                    uint32_t count);
 
-/* Appends a keyword that your program has, as "DESC": never a text from outside. */
+/* Appends a keyword that your program has, as "DESC", one of those that README lists: never a text from outside. */
 bool mysql_params_append_keyword(mysql_params_form *form, const char *name, const char *keyword);
 
 /* Begins a list. Then append its items by the functions above, without a name, and end it. No list stands in a list. */
@@ -242,15 +242,16 @@ typedef struct mysql_params_string {
 } mysql_params_string;
 
 /* Takes the next length-encoded string off the front of an answer: of mysql_params_names the query with marks first, then
- * each name; of mysql_params_bind_rows each text. It moves `*answer` and `*len` after it. Returns false, and changes nothing, if no whole string stands there. */
+ * each name; of mysql_params_bind_rows each text. It moves `*answer` and `*len` after it. Returns false, and changes
+ * nothing, if no whole string stands there. */
 bool mysql_params_next_string(const uint8_t **answer, size_t *len, mysql_params_string *string);
 
 /* Writes what a number and its report say into `line`: one line of printable ASCII, ended by a zero byte, cut to
  * `line_len` bytes with that byte. `source`, of `source_len` bytes, is the form for MYSQL_PARAMS_FORM_REPEATED, else
  * the query; without any (null and 0) a name is left out. For MYSQL_PARAMS_MISSING, _NOT_ALONE and
  * _NAMED_FOR_POSITIONAL the line also says what names are of, if a letter that none has stands directly after a name
- * or in place of one: of `:userId` that it ends after `user`. Returns the length of the whole line without the zero
- * byte. */
+ * or in place of one: of `:userId` that it ends after `user`. For _NOT_ALONE of a place beside a point, as in `b.:c`,
+ * it says what to write instead. Returns the length of the whole line without the zero byte. */
 size_t mysql_params_message(int32_t number, const mysql_params_report *report,
                             const uint8_t *source, size_t source_len,
                             char *line, size_t line_len);

@@ -1166,6 +1166,39 @@ static void other_messages(void)
     }
 }
 
+/* What is said of a place that doesn't stand alone: of one beside a point what to write instead. */
+static void messages_of_neighbours(void)
+{
+    static const struct {
+        const char *query;
+        size_t position;
+        const char *more; /* after the first words */
+    } wanted[] = {
+        {"b.:c", 2, ": for a name with a point write one place, and give an identifier of two names"},
+        {":b.c", 0, ": for a name with a point write one place, and give an identifier of two names"},
+        {"?.c", 0, ": for a name with a point write one place, and give an identifier of two names"},
+        {"b.:Ab", 2, ": names are of a to z, 0 to 9 and _, so `:Ab` is none"},
+        {"1?", 1, ""},
+        {". :a", 2, ""},
+        {":a .", 0, ""},
+        {"?", 0, ""},
+    };
+    for (size_t i = 0; i < sizeof wanted / sizeof wanted[0]; i++) {
+        size_t len = strlen(wanted[i].query);
+        uint8_t *query = exact_copy((bytes){(uint8_t *)wanted[i].query, len});
+        char line[160];
+        char whole[160];
+        test_case it = {0};
+        it.line = (int)i;
+        mysql_params_report report = {0};
+        report.position = wanted[i].position;
+        snprintf(whole, sizeof whole, "Place 0 at byte %zu does not stand alone%s", report.position, wanted[i].more);
+        mysql_params_message(MYSQL_PARAMS_NOT_ALONE, &report, query, len, line, sizeof line);
+        expect(strcmp(line, whole) == 0, &it, line);
+        free(query);
+    }
+}
+
 /* What is said of a letter beside a name reads no byte outside the query, wherever the report points. */
 static void words_of_cut_queries(void)
 {
@@ -1303,6 +1336,7 @@ int main(int count, char **words)
     all &= passed("broken_answers", broken_answers);
     all &= passed("cut_messages", cut_messages);
     all &= passed("other_messages", other_messages);
+    all &= passed("messages_of_neighbours", messages_of_neighbours);
     all &= passed("words_of_cut_queries", words_of_cut_queries);
     all &= passed("the_processor", the_processor);
     all &= passed("out_of_memory", out_of_memory);

@@ -115,6 +115,9 @@ static void refusals()
          "after `na`");
     same(thrown([] { bind(":a", {{"a", 1}, {"a", 2}}); }), "7 Redefinition of named parameter `a'");
     same(thrown([] { bind("?", {1, 2}); }), "12 Query has 1 marks and 2 values");
+    const std::string point = ": for a name with a point write one place, and give an identifier of two names";
+    same(thrown([] { bind("SELECT b.:c", {{"c", 1}}); }), "13 Place 0 at byte 9 does not stand alone" + point);
+    same(thrown([] { bind("SELECT :tableId.c", {{"tableId", 1}}); }), "13 Place 0 at byte 7 does not stand alone" + point);
     same(thrown([] { bind(":a", {{"", 1}}); }), "invalid argument");
     same(thrown([] { bind(":a", {{"a\0"sv, 1}}); }), "invalid argument");
     same(thrown([] { bind("?", {static_cast<const char *>(nullptr)}); }), "invalid argument");
@@ -164,6 +167,8 @@ static void fragments()
         same(error.what(), "Fragment at place 0 can't be written: it is empty");
     }
     same(thrown([] { mysql_params::Form().append_identifier("t", "a\0b"s); }), "invalid argument");
+    same(thrown([] { bind_fragments("ORDER BY a ?", mysql_params::Form().append_keyword(nullptr, "desc")); }),
+         "17 Fragment at place 0 can't be written: it is none of the keywords in capitals that README lists");
 }
 
 /* What is exact, alone and in lists and rows, and a name in another. */

@@ -248,7 +248,10 @@ class UnsteadyError(Error):
     number = 15
     position: int
     _fields: tuple[str, ...] = ("position",)
-    _text = "Backslash or byte that is not ASCII at byte {position} of the query"
+    _text = (
+        "Backslash or byte that is not ASCII at byte {position} of the query: "
+        "over utf8mb4 bind_in_both_modes takes it, except a backslash in a string"
+    )
 
 
 class BackslashError(Error):

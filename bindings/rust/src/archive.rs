@@ -373,17 +373,18 @@ impl Call<'_> {
                 place,
                 position,
                 name: self.name(number, report)?,
-                word: copy_of_any(words::word_at(self.query(), position))?,
+                word: Name::of_any(words::word_at(self.query(), position))?,
             },
             10 => Error::NamedForPositional {
-                word: copy_of_any(words::word_without_name(self.query()))?,
+                word: Name::of_any(words::word_without_name(self.query()))?,
             },
             11 => Error::PositionalForNamed,
             12 => Error::MarkCount { marks, values },
             13 => Error::NotAlone {
                 place,
                 position,
-                word: copy_of_any(words::word_of_place(self.query(), position))?,
+                word: Name::of_any(words::word_of_place(self.query(), position))?,
+                beside_point: words::is_beside_point(self.query(), position),
             },
             14 => Error::Float { place, name: None },
             15 => Error::Unsteady { position },
@@ -656,9 +657,4 @@ pub(crate) fn copy_of(bytes: &[u8]) -> Result<Vec<u8>, Error> {
         .map_err(|_| Error::OutOfMemory)?;
     copy.extend_from_slice(bytes);
     Ok(copy)
-}
-
-/// A copy of a word, if there is one, or out of memory.
-fn copy_of_any(word: Option<&[u8]>) -> Result<Option<Name>, Error> {
-    word.map(|word| copy_of(word).map(Name::from)).transpose()
 }

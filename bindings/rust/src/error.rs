@@ -96,6 +96,9 @@ pub enum Error {
         position: usize,
         /// The word that begins with the name of the place, if it has one and the word is longer.
         word: Option<Name>,
+        /// Whether a point stands directly before or after it, as in `b.:c`: then one place for the whole name takes a
+        /// [`Fragment::Qualified`](crate::Fragment::Qualified).
+        beside_point: bool,
     },
     /// The value for a place is a floating-point number. [`bind_fragments`](crate::bind_fragments) and
     /// [`bind_fragments_anywhere`](crate::bind_fragments_anywhere) refuse a NaN and an infinity so, alone or in a list or
@@ -263,12 +266,16 @@ impl fmt::Display for Error {
                 place,
                 position,
                 word,
+                beside_point,
             } => {
-                let more = Alphabet(word);
-                write!(
-                    f,
-                    "Place {place} at byte {position} does not stand alone{more}"
-                )
+                write!(f, "Place {place} at byte {position} does not stand alone")?;
+                match word {
+                    None if *beside_point => write!(
+                        f,
+                        ": for a name with a point write one place, and give an identifier of two names"
+                    ),
+                    _ => write!(f, "{}", Alphabet(word)),
+                }
             }
             Error::Float { place, name } => {
                 write!(f, "Float at place {place}")?;
@@ -279,7 +286,8 @@ impl fmt::Display for Error {
             }
             Error::Unsteady { position } => write!(
                 f,
-                "Backslash or byte that is not ASCII at byte {position} of the query"
+                "Backslash or byte that is not ASCII at byte {position} of the query: \
+                 over utf8mb4 bind_in_both_modes takes it, except a backslash in a string"
             ),
             Error::Unportable(found) => {
                 let Unportable {

@@ -95,7 +95,7 @@ pub enum Fault {
         /// Its number in a qualified name; 0 for a name alone.
         part: usize,
     },
-    /// A text that is none of the keywords that are written.
+    /// A text that is none of the keywords that are written: the crate's README.md lists them, all in capitals.
     Keyword,
     /// A name with a backslash before a backquote or at its end.
     Backslash {
@@ -137,7 +137,10 @@ impl fmt::Display for Fault {
             Fault::ZeroByte { part } => write!(f, "name {part} has a byte 0"),
             Fault::LongName { part } => write!(f, "name {part} has more than 64 characters"),
             Fault::TrailingSpace { part } => write!(f, "name {part} ends in a space"),
-            Fault::Keyword => write!(f, "it is none of the keywords that are written"),
+            Fault::Keyword => write!(
+                f,
+                "it is none of the keywords in capitals that README lists"
+            ),
             Fault::Backslash { part } => write!(
                 f,
                 "name {part} has a backslash before a backquote or at its end"

@@ -1,4 +1,6 @@
 //! Names and words, shown as text.
+use crate::Error;
+use crate::archive::copy_of;
 use std::fmt;
 use std::ops::Deref;
 
@@ -15,6 +17,13 @@ use std::ops::Deref;
 /// ```
 #[derive(Clone, PartialEq, Eq, Hash)]
 pub struct Name(Vec<u8>);
+
+impl Name {
+    /// A copy of a word, if there is one, or out of memory.
+    pub(crate) fn of_any(word: Option<&[u8]>) -> Result<Option<Name>, Error> {
+        word.map(|word| copy_of(word).map(Name)).transpose()
+    }
+}
 
 impl fmt::Debug for Name {
     fn fmt(&self, f: &mut fmt::Formatter<'_>) -> fmt::Result {

@@ -198,7 +198,7 @@ fn answers_longer_than_the_room() {
 
 #[test]
 fn words_at_the_ends_of_queries() {
-    use crate::words::{word_at, word_of_place, word_without_name};
+    use crate::words::{is_beside_point, word_at, word_of_place, word_without_name};
     assert_eq!(word_at(b":A\xE9", 1), Some(&b"A\xE9"[..]));
     assert_eq!(word_at(b":A\xE9", 2), Some(&b"\xE9"[..]));
     for begin in [0, 3, 4, usize::MAX] {
@@ -211,6 +211,26 @@ fn words_at_the_ends_of_queries() {
     assert_eq!(word_without_name(b"::aB\xE9 :1 :B :"), None);
     assert_eq!(word_without_name(b":A :\xE9 :\xC9"), Some(&b"\xE9"[..]));
     assert_eq!(word_without_name(b""), None);
+    for (query, position) in [
+        ("b.:c", 2),
+        (":b.c", 0),
+        (":bB1_.", 0),
+        ("?.", 0),
+        (".?", 1),
+    ] {
+        assert!(is_beside_point(query.as_bytes(), position), "{query}");
+    }
+    for (query, position) in [
+        ("b:c", 1),
+        (".:c", 0),
+        (". ?", 2),
+        (":b .", 0),
+        ("?", 0),
+        ("", 0),
+        ("?.", 3),
+    ] {
+        assert!(!is_beside_point(query.as_bytes(), position), "{query}");
+    }
 }
 
 #[test]

@@ -34,6 +34,16 @@ pub(crate) fn word_of_place(query: &[u8], position: usize) -> Option<&[u8]> {
     word_at(query, position.checked_add(1)?).filter(|_| colon)
 }
 
+/// Whether a point stands directly before or after the place at a byte of a query.
+pub(crate) fn is_beside_point(query: &[u8], position: usize) -> bool {
+    let (before, place) = query.split_at_checked(position).unwrap_or_default();
+    let after = match place {
+        [b':', rest @ ..] => &rest[name_of(rest).len()..],
+        _ => place.get(1..).unwrap_or_default(),
+    };
+    before.last() == Some(&b'.') || after.first() == Some(&b'.')
+}
+
 /// The first word after a colon that begins with a letter that no name has.
 pub(crate) fn word_without_name(query: &[u8]) -> Option<&[u8]> {
     let mut pairs = query.windows(2);

@@ -311,6 +311,7 @@ fn wanted_error(case: &Case) -> Error {
             place,
             position,
             word,
+            beside_point: false,
         },
         "FLOAT" => Error::Float {
             place,

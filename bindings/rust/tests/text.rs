@@ -109,3 +109,34 @@ fn names_in_debug() -> Result<(), Error> {
     assert_eq!(query, b"SELECT ?");
     Ok(())
 }
+
+#[test]
+fn what_messages_advise() {
+    let advice = "for a name with a point write one place, and give an identifier of two names";
+    for (query, position) in [("SELECT b.:c", 9), ("SELECT :c.b", 7)] {
+        let error = bind(query.as_bytes(), &params! { "c" => 1 }).expect_err(query);
+        let wanted = Error::NotAlone {
+            place: 0,
+            position,
+            word: None,
+            beside_point: true,
+        };
+        assert_eq!(error, wanted, "{query}");
+        let message = format!("Place 0 at byte {position} does not stand alone: {advice}");
+        assert_eq!(error.to_string(), message);
+    }
+    let given = [Fragment::Qualified(vec!["b", "c"])];
+    let text = bind_fragments_str("SELECT ?", &Fragments::Positional(&given));
+    assert_eq!(text.as_deref(), Ok("SELECT `b`.`c`"));
+    let word = bind(b"SELECT b.:c\xC3\xA9", &params! { "c" => 1 }).expect_err("a letter");
+    assert!(
+        word.to_string()
+            .ends_with(r"so `:c\xc3\xa9` ends after `c`")
+    );
+
+    let given = [("order", Fragment::Keyword("desc"))];
+    let error = bind_fragments_str("ORDER BY a :order", &Fragments::Named(&given));
+    let advice = "it is none of the keywords in capitals that README lists";
+    let message = format!("Fragment at place 0 can't be written: {advice}: the value of `:order`");
+    assert_eq!(error.expect_err("it is no capital").to_string(), message);
+}

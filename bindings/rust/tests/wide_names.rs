@@ -106,6 +106,7 @@ fn refusals() {
             place: 0,
             position,
             word: None,
+            beside_point: false,
         };
         assert_eq!(error, wanted, "{query}");
         let message = format!("Place 0 at byte {position} does not stand alone");
