@@ -1,6 +1,7 @@
 /* mysql_params_form.h: parameters written as the flat form that mysql_params_bind reads, a text in memory of `malloc`,
  * rows bound into memory that grows, answers taken apart, refusals and constructs told in a line, and the processor
- * asked. Plain C and C++: compile mysql_params_form.c with your program. It is tested, not proved. */
+ * asked. Plain C and C++: a package's libmysql_params has these functions, so link that and compile nothing; with the
+ * repository's libmysql_params_c.a compile bindings/c/mysql_params_form.c. It is tested, not proved. */
 #ifndef MYSQL_PARAMS_FORM_H
 #define MYSQL_PARAMS_FORM_H
 
