@@ -1,7 +1,11 @@
-"""Writes the wheel of the Python package, with the library inside: pack_wheel.py LIBRARY VERSION FOLDER
+"""Writes the wheel of the Python package: pack_wheel.py PACKAGE VERSION FOLDER
 
-A wheel is a zip. Each time in it is SOURCE_DATE_EPOCH, and the entries stand in one order, so that one library and one tree
-give the same bytes. FOLDER holds PROVENANCE, which goes in too.
+PACKAGE is the folder mysql_params that bindings/build made, with the extension module. A wheel is a zip. Each time in it is
+SOURCE_DATE_EPOCH, and the entries stand in one order, so that one package gives the same bytes. FOLDER holds PROVENANCE, which
+goes in too.
+
+The tag says that the module is of CPython's stable interface from 3.9 on. A build of Python without the GIL has no such
+interface, so pip refuses the wheel there.
 """
 
 import base64
@@ -17,11 +21,12 @@ import zipfile
 TREE = pathlib.Path(__file__).resolve().parent.parent
 # A zip has no time before 1980.
 FIRST_TIME = 315532800
+MODULE = "_native.abi3.so"
 
 
-def platform(library):
-    """The platform's tag: by the newest version of glibc that the library asks for."""
-    names = subprocess.run(["objdump", "-T", str(library)], capture_output=True, text=True, check=True).stdout
+def platform(module):
+    """The platform's tag: by the newest version of glibc that the module asks for."""
+    names = subprocess.run(["objdump", "-T", str(module)], capture_output=True, text=True, check=True).stdout
     versions = [tuple(map(int, found)) for found in re.findall(r"GLIBC_(\d+)\.(\d+)", names)]
     newest = max(versions, default=(2, 5))
     return f"manylinux_{newest[0]}_{newest[1]}_x86_64"
@@ -45,11 +50,9 @@ def digest(data):
     return "sha256=" + base64.urlsafe_b64encode(hashlib.sha256(data).digest()).rstrip(b"=").decode()
 
 
-def files_of(library, version, tag, folder):
+def files_of(package, version, tag, folder):
     """What the wheel holds, by path, without the record of it."""
-    package = TREE / "bindings/python/mysql_params"
     files = {f"mysql_params/{path.name}": path.read_bytes() for path in package.iterdir() if path.is_file()}
-    files["mysql_params/libmysql_params_c.so"] = library.read_bytes()
     info = f"mysql_params-{version}.dist-info"
     files[f"{info}/METADATA"] = metadata(version).encode()
     files[f"{info}/WHEEL"] = f"Wheel-Version: 1.0\nGenerator: tools/pack\nRoot-Is-Purelib: false\nTag: {tag}\n".encode()
@@ -59,9 +62,9 @@ def files_of(library, version, tag, folder):
     return files, f"{info}/RECORD"
 
 
-def main(library, version, folder):
-    tag = f"py3-none-{platform(library)}"
-    files, record = files_of(library, version, tag, folder)
+def main(package, version, folder):
+    tag = f"cp39-abi3-{platform(package / MODULE)}"
+    files, record = files_of(package, version, tag, folder)
     lines = [f"{name},{digest(data)},{len(data)}\n" for name, data in sorted(files.items())]
     files[record] = "".join([*lines, f"{record},,\n"]).encode()
     moment = time.gmtime(max(int(os.environ["SOURCE_DATE_EPOCH"]), FIRST_TIME))[:6]

@@ -1,15 +1,10 @@
-"""Tests of mysql_params: the cases of bindings/cases, every value of one byte, rooms that are lent, errors of use."""
+"""Tests of mysql_params: the cases of bindings/cases, every value of one byte, rows, templates, errors of use."""
 
-import collections
-import ctypes
 import datetime
 import decimal
 import doctest
 import enum
-import gc
 import itertools
-import os
-import pathlib
 import pickle
 import sys
 import threading
@@ -17,13 +12,10 @@ import unittest
 from unittest import mock
 
 import mysql_params
-from mysql_params import Construct, Template, _archive, _form, _rows, _template
+from mysql_params import Construct, Template, _archive, _native, _template
 from mysql_params import bind, bind_anywhere, bind_form, bind_form_anywhere, bind_rows
 from mysql_params import first_unportable, first_unportable_in_client, names
 from shared_cases import CASES, CONSTRUCTS, FIELDS, NUMBERS, cases, text_of
-
-UNTOUCHED = 0xA5
-"""What a byte of the room holds before a call."""
 
 NAN = float("nan")
 
@@ -41,16 +33,6 @@ def literal(byte):
     if byte >= 128:
         return b"0x%02X" % byte
     return b"'\\" + escapes[byte] + b"'" if byte in escapes else b"'" + bytes([byte]) + b"'"
-
-
-def library_of(suffices: bool) -> mock.Mock:
-    """Return a library with the functions of the archive, on a processor that suffices or doesn't."""
-    names = ("names", "bind", "bind_anywhere", "bind_rows", "first_unportable", "first_unportable_in_client")
-    names += ("bind_fragments", "bind_fragments_anywhere", "bind_in_both_modes", "bind_template", "table")
-    wide = (f"mysql_params_{name}_wide" for name in names)
-    library = mock.Mock(spec=[*wide, "mysql_params_processor_suffices"])
-    library.mysql_params_processor_suffices.return_value = suffices
-    return library
 
 
 class Test(unittest.TestCase):
@@ -96,6 +78,7 @@ class Test(unittest.TestCase):
     def test_tables_that_are_kept(self):
         """Every case, with a table that is kept of each query, also of a short one."""
         tables = _archive.Tables(128, 1 << 23, 0)
+        self.addCleanup(_native.keep_from, _native.keep_from(0))
         with mock.patch.object(_archive, "TABLES", tables):
             for _ in range(2):
                 for case in cases("bind.txt"):
@@ -243,26 +226,7 @@ class Test(unittest.TestCase):
         self.assertTrue(bind_rows(query, [(1,), (2,)]) == [bind(query, [1]), bind(query, [2])])
         self.assertEqual(bind_rows(":a ?", []), [])
 
-    def test_forms_of_rows(self):
-        class Number(int):
-            pass
-
-        strings = ["", "it's", "\u20ac", "x" * 250, "x" * 251, "\u20ac" * 84, "x" * 65536]
-        values = [None, True, False, 0, -1, (1 << 63) - 1, -(1 << 63), 1 << 63, (1 << 64) - 1, 0.5, Number(7)]
-        values += strings + [string.encode() for string in strings] + [bytearray(b"x"), datetime.date(2019, 11, 27)]
-        for value in values:
-            for row in ([value], (value, None), [1, value, "x"]):
-                form = _form.form_of(row)
-                self.assertEqual(_form.row_form(row), (form, isinstance(value, float)))
-                self.assertEqual(_archive.next_string(_form.as_row(form), 0), (form, len(_form.as_row(form))))
-            for name in ("n", "n" * 250, "n" * 251, "\u20ac"):
-                named = _form.string_form(name.encode()) + _form.form_of([value])[1:]
-                self.assertEqual(_form.form_of({name: value}), named)
-                self.assertEqual(_form.form_of(collections.UserDict({name: value})), named)
-        self.assertEqual(_form.row_form({"a": None}), (b"\1a\6\0", False))
-        self.assertEqual(_form.row_form(None), (b"", False))
-
-    def test_forms_of_rows_together(self):
+    def test_rows_of_all_columns(self):
         columns = (
             [0, -1, (1 << 63) - 1, -(1 << 63), True],
             ["", "it's", "\u20ac" * 30, "x" * 100],
@@ -271,15 +235,10 @@ class Test(unittest.TestCase):
             [None, 7, False, "x", b"y"],
         )
         for width in range(4):
+            query = "(" + ", ".join("?" * width) + ")"
             for chosen in itertools.product(columns, repeat=width):
                 rows = [kind(column[at % len(column)] for column in chosen) for at, kind in enumerate([tuple, list] * 3)]
-                if any(len(_form.form_of(row)) > 250 for row in rows):
-                    self.assertIsNone(_rows.rows_form(rows))
-                else:
-                    self.assertEqual(_rows.rows_form(rows), b"".join(_form.as_row(_form.row_form(row)[0]) for row in rows))
-        for others in ([], [(1,), (1, 2)], [(1,), {"a": 1}], [{1}], ["x"], [None], [(0.5,)], [(1 << 63,)], [("\ud800",)]):
-            with self.subTest(rows=others):
-                self.assertIsNone(_rows.rows_form(others))
+                self.assertEqual(bind_rows(query, rows), [bind(query, row) for row in rows])
 
     def test_rows_that_change(self):
         def changed():
@@ -380,12 +339,9 @@ class Test(unittest.TestCase):
                 self.expect_construct(case, first_unportable(case.query, case.no_backslash_escape))
                 if not case.no_backslash_escape:
                     self.expect_construct(case, first_unportable(case.query))
-                number, report = _archive.first_unportable(case.query, case.no_backslash_escape)
+                number, position = _native.first_unportable(case.query, case.no_backslash_escape)
                 self.assertEqual(number, 0 if case.portable else 1 + CONSTRUCTS.index(case.construct))
-                fields = {name: getattr(report, name) for name, _ in report._fields_}
-                wanted = dict.fromkeys(fields, 0)
-                wanted["position"] = 0 if case.portable else int(case.fields["position"])
-                self.assertEqual(fields, wanted)
+                self.assertEqual(position, 0 if case.portable else int(case.fields["position"]))
 
     def test_queries_for_a_client(self):
         for case in cases("in_client.txt"):
@@ -404,12 +360,11 @@ class Test(unittest.TestCase):
         self.assertEqual(first_unportable(bytearray(b"'a\\' ["), no_backslash_escape=True), (Construct.BRACKET, 5))
         copy = pickle.loads(pickle.dumps(found))
         self.assertIs(copy.construct, Construct.BRACKET)
-        report = _archive.Report()
         for number in (-2, 21):
             with self.subTest(number=number), self.assertRaises(RuntimeError):
-                _archive.unportable(number, report)
+                _archive.unportable(number, 0)
         with self.assertRaises(mysql_params.OutOfMemoryError):
-            _archive.unportable(-1, report)
+            _archive.unportable(-1, 0)
         for query in (None, 5):
             with self.subTest(query=query), self.assertRaises(TypeError):
                 first_unportable(query)
@@ -437,91 +392,10 @@ class Test(unittest.TestCase):
             text = bind(":" + "a" * length, {"a" * length: "x" * length})
             self.assertTrue(text == b"'" + b"x" * length + b"'", length)
 
-    def lend(self, query, form, room_len):
-        """Call with a room of a length, within memory that is checked on both sides."""
-        memory = bytearray([UNTOUCHED]) * (room_len + 8)
-        number, report = _archive.call(query, form, False, memory, room_len)
-        fields = {name: getattr(report, name) for name, _ in report._fields_ if getattr(report, name) != 0}
-        return number, fields, bytes(memory)
-
-    def test_rooms_that_are_lent(self):
-        calls = [(case.query, case.form, case.text) for case in cases("forms.txt") if case.refusal is None]
-        calls += [(b"", None, b"\x00"), (b":a+:b", None, b"\x03?+?\x01a\x01b"), (b"", b"", b"")]
-        for query, form, answer in calls:
-            needed = len(answer)
-            report = {"len": needed} if needed else {}
-            for room_len in {needed + 5, needed, max(needed - 1, 0), 0}:
-                with self.subTest(query=query, form=form, room_len=room_len):
-                    number, fields, memory = self.lend(query, form, room_len)
-                    written = answer if room_len >= needed else b""
-                    self.assertEqual(number, 0 if room_len >= needed else 2)
-                    self.assertEqual(fields, report)
-                    self.assertEqual(memory, written + bytes([UNTOUCHED]) * (room_len + 8 - len(written)))
-
-    def test_refusals_leave_the_room(self):
-        for query, form, number, fields in (
-            (b":a ?", b"", 8, {}),
-            (b":a ?", None, 8, {}),
-            (b"x, :abc", b"", 9, {"position": 4, "len": 3}),
-            (b"?", b"\x00\x06\x00\xfb", 4, {"place": 1, "position": 3, "byte": 251}),
-        ):
-            self.assertEqual(self.lend(query, form, 24), (number, fields, bytes([UNTOUCHED]) * 32))
-        for case in cases("forms.txt"):
-            if case.refusal is None:
-                continue
-            fields = {field: int(told) for field, told in case.fields.items() if field != "name" and told != "0"}
-            if "name" in case.fields:
-                fields["len"] = len(text_of(case.fields["name"]))
-            wanted = (NUMBERS[case.refusal], fields, bytes([UNTOUCHED]) * 32)
-            with self.subTest(case=case.lines):
-                self.assertEqual(self.lend(case.query, case.form, 24), wanted)
-
     def test_answers_longer_than_the_first_room(self):
         text = bind(",".join([":a"] * 100), {"a": "'" * 300})
         self.assertEqual(text, b",".join([b"'" + b"\\'" * 300 + b"'"] * 100))
         self.assertEqual(names(",".join([":a"] * 1000)), (b",".join([b"?"] * 1000), ["a"] * 1000))
-
-    def test_answers_longer_than_the_room(self):
-        # No archive of ours says so. The second would be 5 as a C int.
-        for length in (75, (1 << 32) + 5, (1 << 64) - 1):
-            report = _archive.Report(len=length)
-            with self.subTest(length=length), mock.patch.object(_archive, "call", return_value=(0, report)):
-                with self.assertRaisesRegex(RuntimeError, f"wrote {length} bytes, and had room for 74$"):
-                    names("SELECT 123")
-
-    def test_rooms_without_memory(self):
-        def up_to(longest):
-            """Let no room be made that is longer, except for its one byte more."""
-
-            def made(length):
-                if length > longest + 1:
-                    raise MemoryError
-                return bytearray(length)
-
-            return mock.patch.object(_archive, "bytearray", made, create=True)
-
-        # The first room is longer than the answer, for which there is memory.
-        with up_to(8):
-            self.assertEqual(bind("SELECT ?", [1]), b"SELECT 1")
-            self.assertEqual(names(":a+:b"), (b"?+?", ["a", "b"]))
-        for longest in (7, 0, -1):
-            with self.subTest(longest=longest), up_to(longest):
-                for call in (lambda: bind("SELECT ?", [1]), lambda: names("SELECT :a")):
-                    with self.assertRaises(mysql_params.OutOfMemoryError) as raised:
-                        call()
-                    self.assertEqual((str(raised.exception), raised.exception.args), ("out of memory", ()))
-        with self.assertRaises(mysql_params.OutOfMemoryError):
-            _archive.new_room(sys.maxsize)
-
-    def test_rooms_leave_no_type_behind(self):
-        # An array type of ctypes is kept until the garbage collector runs.
-        gc.disable()
-        self.addCleanup(gc.enable)
-        before = len(ctypes.Array.__subclasses__())
-        for length in range(1000, 1100):
-            bind("?", ["x" * length])
-            names(" " * length)
-        self.assertEqual(len(ctypes.Array.__subclasses__()), before)
 
     def test_values_of_own_types(self):
         class Color(enum.IntEnum):
@@ -731,35 +605,6 @@ class Test(unittest.TestCase):
                     call(mode)
                 self.assertEqual(str(raised.exception), f"no_backslash_escape is True or False, and not {mode!r}")
 
-    def test_paths_of_the_library(self):
-        library = pathlib.Path(_archive.LIBRARY._name).resolve()
-        beside = pathlib.Path(mysql_params.__file__).resolve().parent / "libmysql_params_c.so"
-        self.addCleanup(os.chdir, os.getcwd())
-        os.chdir(library.parent)
-        for given, wanted in ((str(library), library), (library.name, library), ("", beside)):
-            with self.subTest(given=given), mock.patch.dict(os.environ, MYSQL_PARAMS_LIBRARY=given):
-                with mock.patch.object(ctypes, "CDLL", return_value=library_of(True)) as load:
-                    _archive.load()
-                load.assert_called_once_with(str(wanted))
-
-    def test_libraries_that_cannot_be_used(self):
-        wanted = "Set MYSQL_PARAMS_LIBRARY to the path of libmysql_params_c.so"
-        with mock.patch.dict(os.environ, MYSQL_PARAMS_LIBRARY=os.path.join(os.curdir, "no such file.so")):
-            with self.assertRaisesRegex(ImportError, wanted):
-                _archive.load()
-        # A path that isn't UTF-8, which the loader's message holds.
-        with mock.patch.dict(os.environ, MYSQL_PARAMS_LIBRARY=os.fsdecode(b"/no\xff.so")):
-            with self.assertRaisesRegex(ImportError, wanted):
-                _archive.load()
-        # One without the functions, as an older library lacks those by wide names.
-        with mock.patch.object(ctypes, "CDLL", return_value=object()), self.assertRaisesRegex(ImportError, wanted):
-            _archive.load()
-
-    def test_processors_that_do_not_suffice(self):
-        with mock.patch.object(ctypes, "CDLL", return_value=library_of(False)):
-            with self.assertRaisesRegex(ImportError, "^the processor lacks a feature of x86-64-v2 "):
-                _archive.load()
-
     def test_version(self):
         cargo = (CASES.parent / "rust" / "Cargo.toml").read_text()
         self.assertIn(f'version = "{mysql_params.__version__}"', cargo)
@@ -775,7 +620,7 @@ class Test(unittest.TestCase):
         self.assertIsInstance(error, mysql_params.OutOfMemoryError)
         self.assertIsInstance(error, MemoryError)
         self.assertEqual((str(error), error.args), ("out of memory", ()))
-        for number in (-1, 0, 2, 20):
+        for number in (-1, 0, 2, 20, 21):
             self.assertIs(type(_archive.error(number, report, b"", b"")), RuntimeError)
         for number in (16, 17):  # a construct of no number, and a fault of none
             with self.assertRaises(RuntimeError):

@@ -7,8 +7,6 @@ FOLDER is a temporary one of the caller's, with the folder `rows` where the read
 import os
 import sys
 
-sys.path.insert(0, os.path.join(os.path.dirname(os.path.abspath(__file__)), "..", "..", "bindings", "python"))
-
 import again
 import anew
 import beside

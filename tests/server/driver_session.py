@@ -8,11 +8,8 @@ import datetime
 import decimal
 import enum
 import importlib
-import os
 import sys
 import uuid
-
-sys.path.insert(0, os.path.join(os.path.dirname(os.path.abspath(__file__)), "..", "..", "bindings", "python"))
 
 import mysql_params
 

@@ -1,4 +1,4 @@
-"""Values bound into SQL queries for MySQL, over the library made of the archive libmysql_params_c.a.
+"""Values bound into SQL queries for MySQL, over the archive libmysql_params_c.a.
 
     >>> first_unportable("SELECT * FROM t WHERE id = :id AND name = :name") is None
     True
@@ -13,9 +13,8 @@ A name in a query is a colon, a letter or `_`, and all letters, digits and `_` t
 those of ASCII, and names are told apart by case. Each colon before a letter or `_` begins a name, except in strings,
 quoted identifiers and comments. So `x:LOOP` is refused, and `x: LOOP` is sent as it is.
 
-The library is the file that the environment variable MYSQL_PARAMS_LIBRARY names, by its path, else libmysql_params_c.so
-in the folder of this package; `bindings/build FOLDER` makes it. If there is none, or the processor lacks a feature
-of x86-64-v2, the import is an ImportError.
+The archive is within the package's extension module, which the wheel has; `bindings/build FOLDER` makes the package with it
+in FOLDER/python. If the processor lacks a feature of x86-64-v2, the import is an ImportError.
 """
 
 from __future__ import annotations
@@ -26,8 +25,8 @@ import uuid
 from collections.abc import Iterable, Iterator, Mapping, Sequence, ValuesView
 from typing import NamedTuple, Optional, Union
 
-from . import _archive, _form
-from ._fragments import KEYWORDS, Identifier, Keyword, fragments_form_of
+from . import _archive, _form, _native
+from ._fragments import KEYWORDS, Identifier, Keyword
 from ._many import execute_rows, executemany
 from ._sending import DelimiterError, PacketError, SessionError, ask_again, exec_driver_sql, execute
 from ._template import Template
@@ -168,7 +167,7 @@ def names(query: Union[str, bytes], no_backslash_escape: bool = False) -> Names:
     A query without names comes back as it is. Raise MixedError for one with names and marks, OutOfMemoryError. The flag
     is that of bind.
     """
-    return Names(*_archive.names_of(_form.bytes_of(query), no_backslash_escape))
+    return Names(*_archive.names_of(query, no_backslash_escape))
 
 
 def first_unportable(query: Union[str, bytes], no_backslash_escape: bool = False) -> Optional[Unportable]:
@@ -185,7 +184,7 @@ def first_unportable(query: Union[str, bytes], no_backslash_escape: bool = False
     >>> found.construct.name, found.position
     ('EXECUTABLE_COMMENT', 7)
     """
-    return _archive.unportable(*_archive.first_unportable(_form.bytes_of(query), no_backslash_escape))
+    return _archive.unportable(*_native.first_unportable(query, no_backslash_escape))
 
 
 def first_unportable_in_client(query: Union[str, bytes], no_backslash_escape: bool = False) -> Optional[Unportable]:
@@ -200,7 +199,7 @@ def first_unportable_in_client(query: Union[str, bytes], no_backslash_escape: bo
     >>> first_unportable_in_client("SELECT 1 /*//*/, :a").construct.name
     'OPENER_IN_COMMENT'
     """
-    return _archive.unportable(*_archive.first_unportable_in_client(_form.bytes_of(query), no_backslash_escape))
+    return _archive.unportable(*_native.first_unportable_in_client(query, no_backslash_escape))
 
 
 def bind(
@@ -237,9 +236,7 @@ def bind(
     FragmentError, as for an empty list or rows of two lengths. In place of any of them, and of a text,
     OutOfMemoryError.
     """
-    query, table = _archive.with_table(query, no_backslash_escape)
-    form, fragments = fragments_form_of(params, zone)
-    return _archive.bound(query, table, form, no_backslash_escape, fragments)
+    return _native.bind(query, params, no_backslash_escape, zone)
 
 
 def bind_form(query: Union[str, bytes], form: bytes, no_backslash_escape: bool = False) -> bytes:
@@ -247,8 +244,7 @@ def bind_form(query: Union[str, bytes], form: bytes, no_backslash_escape: bool =
 
     Raise a FormError for the first parameter that can't be taken; then as bind.
     """
-    query, table = _archive.with_table(query, no_backslash_escape)
-    return _archive.bound(query, table, _form.copy(form), no_backslash_escape)
+    return _native.bind_form(query, form, no_backslash_escape)
 
 
 def bind_anywhere(
@@ -269,14 +265,12 @@ def bind_anywhere(
     >>> bind_anywhere("SELECT ?, ?", ["it's", "\u00e9"])
     b"SELECT _utf8mb4'it''s', _utf8mb4 0xC3A9"
     """
-    query, (form, fragments) = _form.bytes_of(query), fragments_form_of(params, zone)
-    return _archive.bound(query, None, form, _archive.ANYWHERE, fragments)
+    return _native.bind_anywhere(query, params, zone)
 
 
 def bind_form_anywhere(query: Union[str, bytes], form: bytes) -> bytes:
     """Bind parameters that stand in their flat form already, as for bind_form, to a text as of bind_anywhere."""
-    query, form = _form.bytes_of(query), _form.copy(form)
-    return _archive.bound(query, None, form, _archive.ANYWHERE)
+    return _native.bind_form_anywhere(query, form)
 
 
 def bind_in_both_modes(
@@ -293,13 +287,12 @@ def bind_in_both_modes(
     >>> bind_in_both_modes("SELECT * FROM b\u00fccher WHERE t = ?", ["\u00e9"]).decode()
     'SELECT * FROM b\xfccher WHERE t = _utf8mb4 0xC3A9'
     """
-    return bind_form_in_both_modes(query, _form.form_of(params, zone))
+    return _native.bind_in_both_modes(query, params, zone)
 
 
 def bind_form_in_both_modes(query: Union[str, bytes], form: bytes) -> bytes:
     """Bind parameters that stand in their flat form already, as for bind_form, to a text as of bind_in_both_modes."""
-    query, form = _form.bytes_of(query), _form.copy(form)
-    return _archive.bound(query, None, form, _archive.BOTH_MODES)
+    return _native.bind_form_in_both_modes(query, form)
 
 
 def bind_rows(query: Union[str, bytes], rows: Iterable[Params], no_backslash_escape: bool = False) -> list[bytes]:

@@ -1,15 +1,14 @@
-"""The flat form: parameters as the library reads them."""
+"""The flat form of a value: of what the extension module leaves to Python, and what it is compared with."""
 
 from __future__ import annotations
 
 import datetime
 import decimal
-import math
 import struct
-from collections.abc import Iterable, Mapping
-from typing import Any, Callable, Optional, Union
+from collections.abc import Iterable, Iterator, Mapping
+from typing import Optional, Union
 
-from ._values import in_zone, is_ambiguous, plain, zone_of
+from ._values import in_zone, is_ambiguous, plain
 from .errors import _show
 
 # Numbers of column types in the protocol, and the flag that says unsigned.
@@ -153,7 +152,7 @@ def value_form(value: object, which: Union[bytes, int], zone: Optional[datetime.
     raise TypeError(f"{place(which)} is of type {kind}, which has no literal")
 
 
-def _name(name: object, number: int) -> bytes:
+def name_of(name: object, number: int) -> bytes:
     """Return the bytes of a name, of the parameter of a number."""
     if not isinstance(name, (str, bytes)):
         raise TypeError(f"a name is str or bytes, and {name!r} is of type {type(name).__name__}")
@@ -163,144 +162,10 @@ def _name(name: object, number: int) -> bytes:
     return own
 
 
-def form_by(params: object, value_of: Callable[[object, Union[bytes, int]], bytes]) -> bytes:
-    """Return the flat form of parameters, of which a function gives type, flags and value."""
-    if params is None:
-        return b""
-    quick = quick_form(params)
-    if quick is not None:
-        return quick
+def parameters(params: object) -> tuple[bool, Iterator[object]]:
+    """Return whether parameters have names, and an iterator over them: of pairs if they have."""
     if isinstance(params, Mapping):
-        forms = []
-        for number, (name, value) in enumerate(params.items()):
-            own = _name(name, number)
-            forms.append(string_form(own) + value_of(value, own))
-        return b"".join(forms)
+        return True, ((name, value) for name, value in params.items())
     if isinstance(params, Iterable) and not isinstance(params, (str, bytes, bytearray, memoryview, set, frozenset)):
-        return b"".join([string_form(b"") + value_of(value, at) for at, value in enumerate(params)])
+        return False, iter(params)
     raise TypeError(f"parameters are None, values in order or a mapping, and not {type(params).__name__}")
-
-
-def form_of(params: object, zone: Optional[datetime.tzinfo] = None) -> bytes:
-    """Return the flat form of parameters that are values; the zone is as for value_form."""
-    return form_by(params, Written(zone_of(zone)).form)
-
-
-class Written:
-    """Parameters that are written, and whether one of them is for the calls that bind fragments, as a finite float is."""
-
-    def __init__(self, zone: Optional[datetime.tzinfo]) -> None:
-        self.zone, self.fragments = zone, False
-
-    def form(self, value: object, which: Union[bytes, int]) -> bytes:
-        """Return type, flags and value of a value."""
-        form = value_form(value, which, self.zone)
-        if form[0] == _DOUBLE and math.isfinite(struct.unpack_from("<d", form, 2)[0]):
-            self.fragments = True
-        return form
-
-
-# Heads of parameters by position, up to their values, or up to the length of a string.
-INT_HEAD = bytes([0, _LONGLONG, 0])
-_DOUBLE_HEAD = bytes([0, _DOUBLE, 0])
-TEXT_HEAD = bytes([0, _VAR_STRING, 0])
-_TEXT_HEADS = [TEXT_HEAD + bytes([length]) for length in range(251)]
-NULL_FORM = bytes([0, _NULL, 0])
-_LENGTHS = [bytes([length]) for length in range(251)]
-
-_pack_int = struct.Struct("<3sq").pack
-_pack_double = struct.Struct("<3sd").pack
-
-
-def _quick_int(number: int) -> bytes:
-    """Return the flat form of a whole number by position; it is a struct.error if that has more than 64 bits."""
-    return _pack_int(INT_HEAD, number)
-
-
-def _quick_double(number: float) -> bytes:
-    """Return the flat form of a float by position."""
-    return _pack_double(_DOUBLE_HEAD, number)
-
-
-def _quick_text(text: str) -> bytes:
-    """Return the flat form of a text by position; it is an IndexError if that is long."""
-    string = text.encode()
-    return _TEXT_HEADS[len(string)] + string
-
-
-def _quick_bytes(string: bytes) -> bytes:
-    """Return the flat form of bytes by position; it is an IndexError if they are many."""
-    return _TEXT_HEADS[len(string)] + string
-
-
-def _quick_null(value: None) -> bytes:
-    """Return the flat form of NULL by position."""
-    return NULL_FORM
-
-
-QUICK: dict[type, Callable[[Any], bytes]] = {
-    int: _quick_int,
-    bool: _quick_int,
-    str: _quick_text,
-    bytes: _quick_bytes,
-    type(None): _quick_null,
-}
-"""Of types themselves, not of their subclasses: what most rows are of."""
-
-_QUICK_ITEMS: dict[type, Callable[[Any], bytes]] = {**QUICK, float: _quick_double}
-"""The same of items, which are bound by the calls that bind fragments: only these write a float."""
-
-
-def _quick_name(name: object) -> bytes:
-    """Return a name as a length-encoded string; it is a KeyError if it is no str or empty, an IndexError if it is long."""
-    if type(name) is str and name:
-        own = name.encode()
-        return _LENGTHS[len(own)] + own
-    raise KeyError
-
-
-def quick_form(params: object) -> Optional[bytes]:
-    """Return the flat form of parameters; None unless they are in order or a dict, and of what most are of."""
-    try:
-        if type(params) is tuple or type(params) is list:
-            return b"".join([QUICK[type(value)](value) for value in params])
-        if type(params) is dict:
-            # The first byte of the form of a value by position is the length of its name.
-            return b"".join([_quick_name(name) + QUICK[type(value)](value)[1:] for name, value in params.items()])
-    except (KeyError, IndexError, UnicodeEncodeError, struct.error):
-        pass
-    return None
-
-
-def quick_items(values: Iterable[object]) -> Optional[bytes]:
-    """Return the flat form of values as items; None unless they are what most rows are of."""
-    try:
-        return b"".join([_QUICK_ITEMS[type(value)](value)[1:] for value in values])  # The first byte is of a name.
-    except (KeyError, IndexError, UnicodeEncodeError, struct.error):
-        return None
-
-
-def row_form(params: object) -> tuple[bytes, bool]:
-    """Return the flat form of a row's parameters, which are values, and whether one of them is a finite float."""
-    form = quick_form(params)
-    if form is not None:
-        return form, False
-    written = Written(None)
-    return form_by(params, written.form), written.fragments
-
-
-def as_row(form: bytes) -> bytes:
-    """Return the flat form of a row's parameters as a length-encoded string."""
-    return _LENGTHS[len(form)] + form if len(form) < 251 else string_form(form)
-
-
-# How many bytes more than twice those of its form the number of a double has, which is up to 27 bytes long.
-_MORE_OF_DOUBLE = 7
-
-
-def longest_literals(form: bytes) -> int:
-    """Return how long what is written of a form's values, for one mode, is at most.
-
-    A literal has at most twice the bytes of its form. What looks like the head of a double counts as one.
-    """
-    return 2 * len(form) + min(_MORE_OF_DOUBLE * form.count(_DOUBLE_HEAD[1:]), len(form))

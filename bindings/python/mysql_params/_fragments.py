@@ -7,11 +7,11 @@ from __future__ import annotations
 
 import datetime
 import decimal
-from collections.abc import Iterable, Mapping, Sequence
+from collections.abc import Iterable, Mapping
 from typing import Optional, Union
 
 from . import _form
-from ._values import decimal_text, plain, zone_of
+from ._values import decimal_text, plain
 
 # The types of the flat form that are no column types: see mysql_params_bind_fragments in mysql_params.h.
 _NUMBER, _LIST, _ROWS, _IDENTIFIER, _QUALIFIED, _KEYWORD = range(128, 134)
@@ -132,7 +132,7 @@ def _wide_number(value: object, which: Union[bytes, int]) -> Optional[bytes]:
     return bytes([_NUMBER, 0]) + _text(str(number), which)
 
 
-def _item(value: object, which: Union[bytes, int], zone: Optional[datetime.tzinfo]) -> bytes:
+def item_form(value: object, which: Union[bytes, int], zone: Optional[datetime.tzinfo]) -> bytes:
     """Return type, flags and value of an item of a list or a row."""
     value = plain(value)
     if isinstance(value, decimal.Decimal):
@@ -145,14 +145,8 @@ def _item(value: object, which: Union[bytes, int], zone: Optional[datetime.tzinf
 
 def _items(values: Iterable[object], which: Union[bytes, int], zone: Optional[datetime.tzinfo]) -> bytes:
     """Return the count of items, and these."""
-    items = [_item(value, which, zone) for value in values]
+    items = [item_form(value, which, zone) for value in values]
     return _count(len(items)) + b"".join(items)
-
-
-def row_items(values: Sequence[object], which: Union[bytes, int], zone: Optional[datetime.tzinfo]) -> bytes:
-    """Return the count of the items of a row, and these: the same as of a row of a list, sooner for what most rows are of."""
-    form = _form.quick_items(values)
-    return _items(values, which, zone) if form is None else _count(len(values)) + form
 
 
 def rows_form(rows: list[bytes]) -> bytes:
@@ -193,23 +187,13 @@ def fragment_form(value: object, which: Union[bytes, int], zone: Optional[dateti
     return None
 
 
-class _Written(_form.Written):
-    """The same of parameters that may be more than values."""
-
-    def form(self, value: object, which: Union[bytes, int]) -> bytes:
-        """Return type, flags and the rest of what stands in a place."""
-        value = plain(value)
-        made = fragment_form(value, which, self.zone)
-        if made is None:
-            if issubclass(type(value), Iterable) and not issubclass(type(value), _NO_LISTS):
-                kind = type(value).__name__
-                raise TypeError(f"{_form.place(which)} is a {kind}, which is no list: give list(..) of it")
-            return super().form(value, which)
-        self.fragments = True
+def place_form(value: object, which: Union[bytes, int], zone: Optional[datetime.tzinfo]) -> bytes:
+    """Return type, flags and the rest of what stands in a place."""
+    value = plain(value)
+    made = fragment_form(value, which, zone)
+    if made is not None:
         return made
-
-
-def fragments_form_of(params: object, zone: Optional[datetime.tzinfo] = None) -> tuple[bytes, bool]:
-    """Return the flat form of parameters, and whether one is for the calls that bind fragments. The zone is as for bind."""
-    written = _Written(zone_of(zone))
-    return _form.form_by(params, written.form), written.fragments
+    if issubclass(type(value), Iterable) and not issubclass(type(value), _NO_LISTS):
+        kind = type(value).__name__
+        raise TypeError(f"{_form.place(which)} is a {kind}, which is no list: give list(..) of it")
+    return _form.value_form(value, which, zone)

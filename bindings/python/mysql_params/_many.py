@@ -6,8 +6,8 @@ import datetime
 from collections.abc import Iterable, Mapping
 from typing import Any, NoReturn, Optional, Union
 
-from . import _archive, _form
-from ._fragments import fragments_form_of, row_items, rows_form
+from . import _archive, _form, _native
+from ._fragments import rows_form
 from ._sending import Told, connection_of, told_for
 from ._values import zone_of
 from .errors import Error, FloatError, FragmentError, MarkCountError
@@ -15,23 +15,18 @@ from .errors import Error, FloatError, FragmentError, MarkCountError
 
 def _texts(query: bytes, told: Told, rows: Iterable[object], zone: Optional[datetime.tzinfo]) -> list[bytes]:
     """Return the text of each row. What a row is refused for tells its number."""
-
-    def form_of(params: object) -> tuple[bytes, bool]:
-        form = _form.quick_form(params)
-        return fragments_form_of(params, zone) if form is None else (form, False)
-
-    binder = _archive.Binder(query, told.no_backslash_escape, form_of)
+    texts: list[bytes] = []
     try:
-        binder.bind_each(rows)
+        _native.bind_rows(query, rows, told.no_backslash_escape, zone, True, texts)
     except Error as fault:
-        fault.row = len(binder.texts)
+        fault.row = len(texts)
         raise
-    for number, text in enumerate(binder.texts):
+    for number, text in enumerate(texts):
         refusal = told.refusal(text)
         if refusal is not None:
             refusal.row = number
             raise refusal
-    return binder.texts
+    return texts
 
 
 def _sent(cursor: Any, texts: Iterable[bytes]) -> int:
@@ -65,10 +60,6 @@ def executemany(
 _LONGEST_TEXT = 1 << 24
 """How long a text of many rows may get, if the server would take a longer one."""
 
-# What a literal has beside it: a comma and a space. A row has brackets and a comma too, for which the four bytes of its count
-# do.
-_BESIDE_LITERAL = 2
-
 
 def _another_query(places: str) -> ValueError:
     """Return what to raise for a query that hasn't one place."""
@@ -91,11 +82,12 @@ class _Gatherer:
         self.forms: list[bytes] = []
         self.size = self.count = 0
         self.first: Optional[bytes] = None
+        self.width = b""
 
     def bound(self, forms: list[bytes]) -> bytes:
         """Return the text of rows."""
         form = _form.string_form(self.name) + rows_form(forms)
-        return _archive.bound(self.query, None, form, self.mode, True)
+        return _native.bind_written(self.query, form, self.mode, True)
 
     def refuse(self, fault: Error, forms: list[bytes], number: int) -> NoReturn:
         """Raise what refuses these rows, of which the first has this number, with the number of the row that it is about."""
@@ -127,18 +119,17 @@ class _Gatherer:
     def add(self, row: object) -> None:
         """Have a row stand in a text."""
         try:
-            form = _row(row, self.which, self.zone)
+            form, size = _row(row, self.which, self.zone)
         except (TypeError, ValueError, OverflowError) as fault:
             self.bind_gathered()  # It may refuse an earlier row.
             setattr(fault, "row", self.count)
             raise
-        first = self.first = self.first or form
-        width = int.from_bytes(form[:4], "little")
-        size = _form.longest_literals(form) + _BESIDE_LITERAL * width
-        if form[:4] != first[:4]:
+        if self.first is None:
+            self.first, self.width = form, form[:4]
+        if form[:4] != self.width:
             self.bind_gathered()
             try:
-                self.bound([first, form])
+                self.bound([self.first, form])
             except Error as fault:
                 self.refuse(fault, [form], self.count - 1)
         if self.size + size > self.room:
@@ -148,12 +139,13 @@ class _Gatherer:
         self.count += 1
 
 
-def _row(row: object, which: Union[bytes, int], zone: Optional[datetime.tzinfo]) -> bytes:
-    """Return the count of a row's items, and these."""
+def _row(row: object, which: Union[bytes, int], zone: Optional[datetime.tzinfo]) -> tuple[bytes, int]:
+    """Return the count of a row's items, and these, and how long what is written of it is at most."""
+    if type(row) is tuple or type(row) is list:
+        return _native.row_items(row, which, zone)
     if isinstance(row, (str, bytes, bytearray, memoryview, set, frozenset, Mapping)) or not isinstance(row, Iterable):
         raise TypeError(f"a row is a list or a tuple of values, and not {type(row).__name__}")
-    # A subclass may say another length than it has items.
-    return row_items(row if type(row) is tuple or type(row) is list else list(row), which, zone)
+    return _native.row_items(row, which, zone)
 
 
 def execute_rows(

@@ -8,8 +8,7 @@ import re
 from collections.abc import Mapping
 from typing import Any, NamedTuple, Optional, Union
 
-from . import _archive, _form
-from ._fragments import fragments_form_of
+from . import _archive, _form, _native
 from .errors import Error, UnportableError
 from .portable import Unportable
 
@@ -176,7 +175,7 @@ def ask_again(connection: Any) -> None:
 
 def _unportable(query: bytes, mode: bool) -> Optional[Unportable]:
     """Return the first construct of a query, as first_unportable."""
-    return _archive.unportable(*_archive.first_unportable(query, mode))
+    return _archive.unportable(*_native.first_unportable(query, mode))
 
 
 _LONGEST_KEPT = 4096
@@ -203,10 +202,9 @@ def _bound(
     connection: Any, query: bytes, params: object, zone: Optional[datetime.tzinfo], always_ask: bool
 ) -> bytes:
     """Return the text to send over a connection of a driver."""
-    form, fragments = fragments_form_of(params, zone)
+    form, is_fragments = _native.written(params, zone, True)
     told = told_for(connection, query, always_ask)
-    mode = told.no_backslash_escape
-    text = _archive.bound(query, _archive.TABLES.of(query, mode), form, mode, fragments)
+    text = _native.bind_written(query, form, told.no_backslash_escape, is_fragments)
     refusal = told.refusal(text)
     if refusal is not None:
         raise refusal

@@ -6,8 +6,7 @@ import datetime
 from collections.abc import Iterable
 from typing import Optional, Union
 
-from . import _archive, _form
-from ._fragments import fragments_form_of
+from . import _archive, _native
 
 
 class Template:
@@ -28,7 +27,7 @@ class Template:
 
         A query that can't be bound is refused when it is bound.
         """
-        self._table = _archive.Table(_form.bytes_of(query), no_backslash_escape)
+        self._table = _native.table(query, no_backslash_escape)
 
     @property
     def query(self) -> bytes:
@@ -42,12 +41,11 @@ class Template:
 
     def bind(self, params: object = None, *, zone: Optional[datetime.tzinfo] = None) -> bytes:
         """Return what bind returns for the query in its mode, and raise what it raises."""
-        form, fragments = fragments_form_of(params, zone)
-        return _archive.bound(self._table.query, self._table, form, self._table.mode, fragments)
+        return _native.bind_table(self._table, params, zone)
 
     def bind_form(self, form: bytes) -> bytes:
         """Return what bind_form returns for the query in its mode, and raise what it raises."""
-        return _archive.bound(self._table.query, self._table, _form.copy(form), self._table.mode)
+        return _native.bind_form_table(self._table, form)
 
     def bind_rows(self, rows: Iterable[object]) -> list[bytes]:
         """Return what bind_rows returns for the query in its mode, and raise what it raises.

@@ -1,0 +1,285 @@
+/* rows.c: one query bound to row after row, batch after batch. */
+#include "native.h"
+
+#include <stdlib.h>
+
+/* Once the forms of rows have so many bytes, or their queries, the rows are bound. The forms are few enough to stay in a processor's
+ * cache with their texts, and many enough for the GIL to be let go. */
+enum { MOST_FORMS = 1 << 15, MOST_QUERIES = 1 << 18 };
+
+/* What a text has beside its query and its literals: its length. */
+enum { BESIDE_TEXT = 9 };
+
+/* Rows that are bound to a query. */
+typedef struct binder {
+    const native_state *state; /* borrowed */
+    PyObject *query;           /* borrowed, bytes */
+    PyObject *texts;           /* borrowed, a list: those of the rows that are bound */
+    bool mode;
+    form forms; /* owned; of the rows that wait, each as a length-encoded string */
+    size_t count;  /* rows that wait */
+    size_t most;   /* of so many at most */
+    uint8_t *room; /* owned, of calloc */
+    size_t room_len;
+} binder;
+
+/* What is asked for the row whose form stands somewhere. */
+static question question_of(const binder *binder, const uint8_t *form, size_t len, bool is_fragments)
+{
+    question question = {CALL_BIND, binder->query, NULL, form, len, is_fragments, binder->mode};
+    return question;
+}
+
+/* Takes a length-encoded string off bytes: where it begins and ends in them; false without an exception if none stands there. */
+static bool next_string(const uint8_t *bytes, size_t len, size_t *begin, size_t *end)
+{
+    if (len == 0)
+        return false;
+    uint8_t lead = bytes[0];
+    size_t count = lead == 0xFC ? 2 : lead == 0xFD ? 3 : lead == 0xFE ? 8 : 0, found = count > 0 ? 0 : lead;
+    if (lead == 0xFB || lead == 0xFF || len < 1 + count)
+        return false;
+    for (size_t i = 0; i < count; i++)
+        found |= (size_t)bytes[1 + i] << (8 * i);
+    *begin = 1 + count;
+    *end = *begin + found;
+    return found <= len - *begin;
+}
+
+/* Appends the texts of which an answer is a row. */
+static bool append_texts(const binder *binder, size_t written)
+{
+    size_t begin, end;
+    for (size_t at = 0; at < written; at += end) {
+        if (!next_string(binder->room + at, written - at, &begin, &end)) {
+            PyErr_SetString(PyExc_RuntimeError, "the answer of the archive is no row of strings");
+            return false;
+        }
+        PyObject *text = PyBytes_FromStringAndSize((const char *)binder->room + at + begin, (Py_ssize_t)(end - begin));
+        int status = text == NULL ? -1 : PyList_Append(binder->texts, text);
+        Py_XDECREF(text);
+        if (status != 0)
+            return false;
+    }
+    return true;
+}
+
+/* Has the room be as long as is wanted at least. */
+static bool have_room(binder *binder, size_t wanted)
+{
+    if (binder->room != NULL && binder->room_len >= wanted)
+        return true;
+    free(binder->room);
+    binder->room = wanted > (size_t)PY_SSIZE_T_MAX ? NULL : calloc(wanted + 1, 1);
+    binder->room_len = binder->room == NULL ? 0 : wanted;
+    return binder->room != NULL || refuse_memory(binder->state) != NULL;
+}
+
+/* Binds the rows whose forms stand there, without the GIL if they are many. */
+static int32_t bind_some(binder *binder, const uint8_t *forms, size_t len, mysql_params_rows *rows,
+                         mysql_params_report *report)
+{
+    const uint8_t *query = (const uint8_t *)PyBytes_AsString(binder->query);
+    size_t query_len = (size_t)PyBytes_Size(binder->query);
+    PyThreadState *save = binder->room_len > KEPT_ROOM ? PyEval_SaveThread() : NULL;
+    int32_t number = mysql_params_bind_rows_wide(query, query_len, forms, len, binder->mode, binder->room, binder->room_len,
+                                                 rows, report);
+    if (save != NULL)
+        PyEval_RestoreThread(save);
+    return number;
+}
+
+/* Raises what the row whose form stands first is refused for. */
+static bool refuse_row(const binder *binder, int32_t number, const uint8_t *forms, size_t len,
+                       const mysql_params_report *report)
+{
+    size_t begin, end;
+    if (!next_string(forms, len, &begin, &end)) {
+        PyErr_SetString(PyExc_RuntimeError, "the archive says that it read more than the forms of the rows");
+        return false;
+    }
+    question question = question_of(binder, forms + begin, end - begin, false);
+    return refuse(binder->state, &question, number, report) != NULL;
+}
+
+/* Appends the texts of rows whose forms are the first `len` bytes, or raises for the first that is refused. */
+static bool bind_forms(binder *binder, size_t len)
+{
+    size_t read = 0, query_len = (size_t)PyBytes_Size(binder->query);
+    size_t guess = 2 * len + binder->count * (query_len + BESIDE_TEXT);
+    while (have_room(binder, guess)) {
+        mysql_params_rows rows = {0};
+        mysql_params_report report = {0};
+        int32_t number = bind_some(binder, binder->forms.bytes + read, len - read, &rows, &report);
+        if (rows.written > binder->room_len || rows.read > len - read) {
+            PyErr_Format(PyExc_RuntimeError, "the archive says that it wrote %zu bytes, and had room for %zu", rows.written,
+                         binder->room_len);
+            return false;
+        }
+        if (!append_texts(binder, rows.written))
+            return false;
+        if (number == MYSQL_PARAMS_DONE)
+            return true;
+        read += rows.read;
+        if (number != MYSQL_PARAMS_ROOM)
+            return refuse_row(binder, number, binder->forms.bytes + read, len - read, &report);
+        guess = report.len > 2 * binder->room_len ? report.len : 2 * binder->room_len;
+    }
+    return false;
+}
+
+/* Binds the rows that wait, whose forms are the first `len` bytes. */
+static bool bind_waiting(binder *binder, size_t len)
+{
+    bool done = binder->count == 0 || (PyErr_CheckSignals() == 0 && bind_forms(binder, len));
+    binder->count = 0;
+    return done;
+}
+
+/* Says in an exception which row it is of, and the texts of the rows before it. */
+static void tell_row(const binder *binder, PyObject *fault)
+{
+    PyObject *row = PyLong_FromSsize_t(PyList_Size(binder->texts));
+    if (row == NULL || PyObject_SetAttrString(fault, "row", row) != 0 ||
+        PyObject_SetAttrString(fault, "texts", binder->texts) != 0)
+        PyErr_Clear(); /* What the row is refused for is raised all the same. */
+    Py_XDECREF(row);
+}
+
+/* After an exception for a row's parameters: binds the rows before it, of which one may be refused. */
+static void bind_before(binder *binder, size_t len)
+{
+    if (!PyErr_ExceptionMatches(PyExc_TypeError) && !PyErr_ExceptionMatches(PyExc_ValueError) &&
+        !PyErr_ExceptionMatches(PyExc_OverflowError))
+        return;
+    PyObject *kind, *fault, *trace;
+    PyErr_Fetch(&kind, &fault, &trace);
+    PyErr_NormalizeException(&kind, &fault, &trace);
+    if (!bind_waiting(binder, len)) {
+        Py_XDECREF(kind);
+        Py_XDECREF(fault);
+        Py_XDECREF(trace);
+        return;
+    }
+    if (fault != NULL)
+        tell_row(binder, fault);
+    PyErr_Restore(kind, fault, trace);
+}
+
+/* Binds a row by itself, whose form stands behind those that wait and is for the calls that bind fragments. */
+static bool bind_alone(binder *binder, size_t begin)
+{
+    if (!bind_waiting(binder, begin))
+        return false;
+    question question = question_of(binder, binder->forms.bytes + begin + 1, binder->forms.len - begin - 1, true);
+    PyObject *text = answer(binder->state, &question);
+    int status = text == NULL ? -1 : PyList_Append(binder->texts, text);
+    Py_XDECREF(text);
+    binder->forms.len = 0;
+    return status == 0;
+}
+
+/* Has a row wait, and binds those that wait if they are many. */
+static bool add_row(binder *binder, const writer *writer, PyObject *row)
+{
+    size_t begin = binder->forms.len;
+    binder->forms.is_fragments = false;
+    if (form_more(&binder->forms, 1) == NULL)
+        return false;
+    if (!write_params(writer, row)) {
+        bind_before(binder, begin);
+        return false;
+    }
+    if (binder->forms.is_fragments)
+        return bind_alone(binder, begin);
+    if (!form_enclose(&binder->forms, begin))
+        return false;
+    binder->count++;
+    if (binder->forms.len < MOST_FORMS && binder->count < binder->most)
+        return true;
+    bool done = bind_waiting(binder, binder->forms.len);
+    binder->forms.len = 0;
+    return done;
+}
+
+/* Appends the texts of all rows. */
+static bool bind_all(binder *binder, const writer *writer, PyObject *rows)
+{
+    PyObject *iterator = PyObject_GetIter(rows), *row;
+    if (iterator == NULL)
+        return false;
+    bool done = true;
+    while (done && (row = PyIter_Next(iterator)) != NULL) {
+        done = add_row(binder, writer, row);
+        Py_DECREF(row);
+    }
+    Py_DECREF(iterator);
+    return done && PyErr_Occurred() == NULL && bind_waiting(binder, binder->forms.len);
+}
+
+/* Binds rows: a query, which is bytes, the rows, the mode, a zone, whether places take more than values, and a list of texts,
+ * which gets those of the rows up to the first that is refused. */
+PyObject *native_bind_rows(PyObject *module, PyObject *arguments)
+{
+    PyObject *taken[6];
+    native_state *state = state_of(module);
+    binder binder = {.state = state};
+    if (state == NULL || !take_arguments(arguments, 6, taken) || !take_mode(state, taken[2], &binder.mode))
+        return NULL;
+    if (!PyBytes_Check(taken[0]) || !PyList_Check(taken[5])) {
+        PyErr_SetString(PyExc_TypeError, "a query of bytes and a list of texts are wanted");
+        return NULL;
+    }
+    binder.query = taken[0];
+    binder.texts = taken[5];
+    binder.most = 1 + MOST_QUERIES / ((size_t)PyBytes_Size(taken[0]) + 1);
+    form_begin(&binder.forms);
+    const writer writer = {state, &binder.forms, taken[3], taken[4] == Py_True ? LEVEL_PLACES : LEVEL_VALUES};
+    bool done = bind_all(&binder, &writer, taken[1]);
+    form_free(&binder.forms);
+    free(binder.room);
+    if (!done)
+        return NULL;
+    Py_RETURN_NONE;
+}
+
+/* How many bytes more than twice those of its form the number of a double has, which is up to 27 bytes long. */
+enum { MORE_OF_DOUBLE = 7 };
+
+/* What a literal of a row has beside it: a comma and a space. A row has brackets and a comma too, for which the four bytes of its
+ * count do. */
+enum { BESIDE_LITERAL = 2 };
+
+/* How long what is written of a row is at most, for one mode, by its form of so many items. A literal has at most twice the bytes
+ * of its form. What looks like the head of a double counts as one. */
+static size_t longest_row(const form *form, size_t items)
+{
+    size_t more = 0;
+    for (size_t i = 0; i + 1 < form->len; i++)
+        more += form->bytes[i] == TYPE_DOUBLE && form->bytes[i + 1] == 0 ? MORE_OF_DOUBLE : 0;
+    return 2 * form->len + (more < form->len ? more : form->len) + BESIDE_LITERAL * items;
+}
+
+/* The count of a row's items and these, as the calls that bind fragments take a row, and how long what is written of it is at most:
+ * of a row, its place, and a zone. */
+PyObject *native_row_items(PyObject *module, PyObject *arguments)
+{
+    PyObject *taken[3];
+    native_state *state = state_of(module);
+    if (state == NULL || !take_arguments(arguments, 3, taken))
+        return NULL;
+    bool has_name = PyBytes_Check(taken[1]);
+    place place = {has_name ? taken[1] : NULL, has_name ? 0 : PyLong_AsSsize_t(taken[1])};
+    if (place.number == -1 && PyErr_Occurred() != NULL)
+        return NULL;
+    form form;
+    form_begin(&form);
+    const writer writer = {state, &form, taken[2], LEVEL_ITEMS};
+    PyObject *made = NULL;
+    if (write_items(&writer, taken[0], &place)) {
+        size_t items = form.bytes[0] | (size_t)form.bytes[1] << 8 | (size_t)form.bytes[2] << 16 | (size_t)form.bytes[3] << 24;
+        made = Py_BuildValue("(y#n)", (const char *)form.bytes, (Py_ssize_t)form.len, (Py_ssize_t)longest_row(&form, items));
+    }
+    form_free(&form);
+    return made;
+}

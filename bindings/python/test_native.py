@@ -1,0 +1,240 @@
+"""Tests of the extension module: its flat forms beside those of the package's functions in Python, threads, and memory."""
+
+import collections
+import datetime
+import decimal
+import enum
+import itertools
+import random
+import resource
+import sys
+import threading
+import time
+import unittest
+import uuid
+from unittest import mock
+
+import mysql_params
+from mysql_params import Identifier, Keyword, _form, _fragments, _native, _values, bind, bind_anywhere, bind_rows
+from test_mysql_params import Result
+
+UTC = datetime.timezone.utc
+DAY = datetime.timedelta(days=1)
+KEPT = 1 << 16
+"""The bytes of the room that the module keeps, over which a call lets the GIL go."""
+
+
+class Number(int):
+    """A subclass, which is for Python."""
+
+
+class Text(str):
+    """Another."""
+
+
+class Moment(datetime.datetime):
+    """Another."""
+
+
+class Color(enum.Enum):
+    """A value of another type."""
+
+    RED = 7
+
+
+class Point:
+    """A type that may be registered."""
+
+
+Pair = collections.namedtuple("Pair", "a b")
+
+STRINGS = ["", "it's", "\u20ac", "\0", "x" * 250, "x" * 251, "\u20ac" * 84, "x" * 65535, "x" * 65536, "x" * (1 << 24), "\ud800"]
+NUMBERS = [0, 1, -1, 255, (1 << 63) - 1, 1 << 63, -(1 << 63), -(1 << 63) - 1, (1 << 64) - 1, 1 << 64, 10**65 - 1, 10**65, -(10**65)]
+FLOATS = [0.0, -0.0, 0.1, 5e-324, 1.7976931348623157e308, float("nan"), float("inf"), float("-inf")]
+DATES = [datetime.date.min, datetime.date.max, datetime.date(2019, 11, 27), datetime.datetime.min, datetime.datetime.max]
+DATES += [datetime.datetime(2019, 11, 27, 1, 2, 3, 4), datetime.datetime(2019, 11, 27, tzinfo=UTC), Moment(2019, 11, 27)]
+TIMES = [datetime.time.min, datetime.time.max, datetime.time(1, 2, 3, 4), datetime.time(1, tzinfo=UTC)]
+SPANS = [datetime.timedelta.min, datetime.timedelta.max, datetime.timedelta(0), DAY, -DAY, datetime.timedelta(microseconds=-1)]
+SPANS += [datetime.timedelta(-1, 86399), datetime.timedelta(-1, 0, 1), datetime.timedelta(seconds=-1), datetime.timedelta(hours=25)]
+DECIMALS = ["0", "-0", "0.00", "0E-2", "0E+3", "-1.50", "1E+3", "1E-7", "0.000001", "1E+64", "1E+65", "1E-30", "1E-31", "NaN"]
+DECIMALS += ["sNaN", "-Infinity", "9" * 65, "9" * 66, "0." + "1" * 64, "0." + "1" * 65, "-" + "9" * 35 + "." + "9" * 30]
+OTHERS = [None, True, False, bytearray(b"a'"), memoryview(b"\xff"), Number(5), Text("a"), Color.RED, uuid.UUID(int=7), Point()]
+OTHERS += [1j, {1}, frozenset(), {1: 2}, range(2), iter(()), Identifier("t"), Identifier("a", "b"), object, Ellipsis]
+OTHERS += [Keyword("ASC", among=("ASC",)), Identifier("\ud800")]
+VALUES = STRINGS + [string.encode("utf-8", "surrogatepass") for string in STRINGS] + NUMBERS + FLOATS + DATES + TIMES + SPANS
+VALUES += [decimal.Decimal(digits) for digits in DECIMALS] + OTHERS
+LISTS = [[], (), [1, "a", None], (0.5, b"x"), [decimal.Decimal("1.5"), 1 << 70], [(1, 2), [3, "a"]], ((),), [[1], 2], [1, [2]]]
+LISTS += [[{1}], [(1, {1})], [[(1,)]], [Identifier("t")], [Pair(1, 2), (3, 4)], Pair(1, 2), Pair((1,), [2]), [Number(1), Text("a")]]
+LISTS += [collections.UserList([1]), collections.deque([1]), [DATES[5], TIMES[1], SPANS[4]], [float("nan")], [True, [1]]]
+
+
+def outcome(call):
+    """Return what a call returns, or the type and the message of what it raises."""
+    try:
+        return call()
+    except Exception as fault:
+        return type(fault), str(fault)
+
+
+def is_of_fragments(form):
+    """Return whether a parameter without a name is for the calls that bind fragments, by its type and value."""
+    return 128 <= form[1] <= 133 or form[1] == 5 and form[2:] not in map(not_finite, FLOATS[-3:])
+
+
+def not_finite(number):
+    """Return the flags and the value of a double."""
+    return _form.value_form(number, 0)[1:]
+
+
+class Test(unittest.TestCase):
+    """All tests."""
+
+    def setUp(self):
+        registered = mock.patch.dict(_values._REGISTERED, clear=True)
+        registered.start()
+        self.addCleanup(registered.stop)
+
+    def compare(self, value, zone=None):
+        """A value has the form, or the exception, that the functions in Python have for it."""
+        for takes_more, function in ((True, _fragments.place_form), (False, _form.value_form)):
+            with self.subTest(value=repr(value)[:80], takes_more=takes_more):
+                wanted = outcome(lambda: b"\0" + function(value, 1, zone))
+                found = outcome(lambda: _native.written([None, value], zone, takes_more))
+                if isinstance(wanted, bytes):
+                    self.assertTrue(found == (b"\0\6\0" + wanted, is_of_fragments(wanted)), found[0][:80])
+                else:
+                    self.assertEqual(found, wanted)
+                wanted = outcome(lambda: b"\1n" + function(value, b"n", zone))
+                for params in ({"n": value}, {b"n": value}, collections.UserDict(n=value), {Text("n"): value}):
+                    found = outcome(lambda: _native.written(params, zone, takes_more))
+                    self.assertTrue(found == wanted or found[0] == wanted, found)
+
+    def test_forms_of_values(self):
+        for value in VALUES:
+            self.compare(value)
+            self.compare(value, UTC)
+        self.assertGreater(len(VALUES), 100)
+
+    def test_forms_of_lists(self):
+        for value in LISTS + [[value] for value in VALUES] + [[(value, 1)] for value in VALUES]:
+            self.compare(value)
+        for first, second in itertools.product(LISTS[:9], repeat=2):
+            self.compare([first, second])
+
+    def test_forms_of_registered_types(self):
+        for kind, function in ((Point, lambda point: 5), (decimal.Decimal, str), (list, repr), (tuple, len), (Color, str)):
+            mysql_params.register(kind, function)
+        mysql_params.register(datetime.time, str)
+        for value in (Point(), decimal.Decimal("1.5"), [1, 2], (1, 2), Color.RED, datetime.time(1), [Point()], 5, "a"):
+            self.compare(value)
+        self.assertEqual(bind("?, ?, ?", [[1], (1,), datetime.time(1)]), b"'[1]', 1, '01:00:00'")
+
+    def test_forms_of_rows(self):
+        for row in LISTS:
+            for which in (0, b"n"):
+                wanted = outcome(lambda: _fragments._items(row, which, None))
+                self.assertEqual(outcome(lambda: _native.row_items(row, which, None)[0]), wanted)
+
+    def test_random_values(self):
+        chosen = random.Random(5)
+        short = [value for value in VALUES + LISTS if not isinstance(value, (str, bytes)) or len(value) < 300]
+        for _ in range(2000):
+            params = [chosen.choice(short) for _ in range(chosen.randrange(5))]
+            forms = [outcome(lambda: b"\0" + _fragments.place_form(value, at, UTC)) for at, value in enumerate(params)]
+            faults = [form for form in forms if isinstance(form, tuple)]
+            found = outcome(lambda: _native.written(params, UTC, True))
+            self.assertEqual(found if faults else found[0], faults[0] if faults else b"".join(forms))
+
+    def test_parameters_that_change(self):
+        params, items = {"a": Point(), "b": 1}, [Point(), 1, 2]
+        mysql_params.register(Point, lambda point: params.clear())
+        with self.assertRaisesRegex(RuntimeError, "^dictionary changed size during iteration$"):
+            bind(":a", params)
+        mysql_params.register(Point, lambda point: items.clear())
+        self.assertEqual(bind("?, ?, ?", items), b"NULL, 1, 2")
+        self.assertEqual(items, [])
+        items[:] = [[Point(), 1], 2]
+        mysql_params.register(Point, lambda point: bind("?, ?", ["x" * 100, 3]))
+        self.assertEqual(bind("?; ?", [items[0], 4]), b"'\\'" + b"x" * 100 + b"\\', 3', 1; 4")
+
+    def test_iterators_that_raise(self):
+        def rows():
+            yield [1]
+            raise ZeroDivisionError
+
+        for call in (lambda: bind("?", rows()), lambda: bind_rows("?", rows())):
+            with self.assertRaises(ZeroDivisionError):
+                call()
+        with self.assertRaises(TypeError) as raised:
+            bind_rows("?", ([len(row)] for row in ("a", 2)))
+        self.assertFalse(hasattr(raised.exception, "texts"))  # It is of no row.
+
+    def test_texts_longer_than_the_room_that_is_kept(self):
+        for length in (KEPT - 200, KEPT - 3, KEPT - 2, KEPT - 1, KEPT, 3 * KEPT):
+            for sign in "x'":
+                wanted = ("'" + sign.replace("'", "\\'") * length + "'").encode()
+                self.assertTrue(bind("?", [sign * length]) == wanted)
+                self.assertTrue(bind("/*" + sign * length + "*/?", ["'"]) == b"/*" + sign.encode() * length + b"*/'\\''")
+        query = ",".join([":a"] * 100)
+        self.assertTrue(bind(query, {"a": "x" * 2000}) == b",".join([b"'" + b"x" * 2000 + b"'"] * 100))
+
+    def test_others_run_during_long_calls(self):
+        moments, is_done = [], threading.Event()
+
+        def note():
+            while not is_done.is_set():
+                moments.append(time.perf_counter())
+                time.sleep(0.001)
+
+        other = threading.Thread(target=note)
+        other.start()
+        self.addCleanup(other.join)
+        self.addCleanup(is_done.set)
+        text = "it's " * (5 << 20)
+        query = "SELECT 1 /* " + "a 'b' " * (5 << 20) + "*/"
+        template = mysql_params.Template("?")
+        for name, call in (
+            ("bind", lambda: bind("?", [text])),
+            ("bind_anywhere", lambda: bind_anywhere("?", [text])),
+            ("template", lambda: template.bind([text])),
+            ("names", lambda: mysql_params.names(query)),
+            ("first_unportable", lambda: mysql_params.first_unportable(query)),
+            ("bind_rows", lambda: bind_rows("?", [[text[: 1 << 20]]] * 25)),
+        ):
+            most = 0
+            for _ in range(5):  # A processor that is shared may not come to the other thread in time.
+                begin = time.perf_counter()
+                call()
+                end = time.perf_counter()
+                most = max(most, sum(begin < moment < end for moment in moments))
+                if most > 2:
+                    break
+            self.assertGreater(most, 2, f"{name}, {end - begin} s")
+
+    def test_memory_that_is_refused(self):
+        text = "x" * (1 << 26)
+        before = resource.getrlimit(resource.RLIMIT_AS)
+        pages = int(open("/proc/self/statm").read().split()[0]) * resource.getpagesize()
+        for more in (1 << 20, 1 << 26, 5 << 25):
+            resource.setrlimit(resource.RLIMIT_AS, (pages + more, before[1]))
+            try:
+                found = outcome(lambda: bind("?", [text]))
+            finally:
+                resource.setrlimit(resource.RLIMIT_AS, before)
+            with self.subTest(more=more):
+                self.assertTrue(isinstance(found, tuple) and issubclass(found[0], MemoryError))
+        self.assertTrue(bind("?", [text]) == b"'" + text.encode() + b"'")
+
+    def test_tables_are_made_by_queries_alone(self):
+        with self.assertRaises(TypeError):
+            _native.Table()
+        with self.assertRaises(TypeError):
+            _native.bind_table(b"?", [1], None)
+        with self.assertRaises(TypeError):
+            object.__new__(_native.Table)
+
+
+if __name__ == "__main__":
+    result = Result()
+    unittest.defaultTestLoader.loadTestsFromTestCase(Test).run(result)
+    sys.exit(0 if result.wasSuccessful() and result.testsRun else 1)
