@@ -10,7 +10,7 @@ from mysql_params import Fault, Identifier, execute_rows, executemany
 from test_mysql_params import Result
 from test_sending import NONE, Connection, Connector, MySQLCursorPrepared, PyMySQL
 
-INSERT, ROWS = "INSERT INTO t VALUES (?, ?)", "INSERT INTO t VALUES ?"
+INSERT, ROWS, UPDATE = "INSERT INTO t VALUES (?, ?)", "INSERT INTO t VALUES ?", "UPDATE t SET a = ? WHERE b = ?"
 NAN = float("nan")
 MOMENT = datetime.datetime(2019, 11, 27, 23, 30, tzinfo=datetime.timezone.utc)
 
@@ -35,10 +35,11 @@ class Test(unittest.TestCase):
 
     def test_a_text_for_each_row(self):
         connection = PyMySQL()
-        self.assertEqual(executemany(connection.cursor(), INSERT, [(1, "a"), [2, "%"]]), 6)
-        self.assertEqual(connection.sent, [b"INSERT INTO t VALUES (1, 'a')", b"INSERT INTO t VALUES (2, '%')"])
+        self.assertEqual(executemany(connection.cursor(), UPDATE, [(1, "a"), [2, "%"]]), 6)
+        self.assertEqual(connection.sent, [b"UPDATE t SET a = 1 WHERE b = 'a'", b"UPDATE t SET a = 2 WHERE b = '%'"])
         self.assertEqual(connection.asked, 1)
-        self.assertEqual(executemany(connection.cursor(), INSERT, iter(())), 0)
+        for query in (UPDATE, INSERT):
+            self.assertEqual(executemany(connection.cursor(), query, iter(())), 0)
         self.assertEqual(len(connection.sent), 2)
 
     def test_rows_of_all_kinds_in_order(self):
@@ -64,11 +65,68 @@ class Test(unittest.TestCase):
     def test_very_many_rows(self):
         connection = Connection()
         rows = [(i, "x" * (i % 400)) for i in range(20_000)]
-        self.assertEqual(executemany(connection.cursor(), INSERT, iter(rows)), 60_000)
-        self.assertEqual(connection.sent, [b"INSERT INTO t VALUES (%d, '%s')" % (i, text.encode()) for i, text in rows])
+        self.assertEqual(executemany(connection.cursor(), UPDATE, iter(rows)), 60_000)
+        self.assertEqual(connection.sent, [b"UPDATE t SET a = %d WHERE b = '%s'" % (i, text.encode()) for i, text in rows])
         self.assertEqual(connection.asked, 1)
-        executemany(connection.cursor(), INSERT, rows[:2], always_ask=True)
+        executemany(connection.cursor(), UPDATE, rows[:2], always_ask=True)
         self.assertEqual(connection.asked, 2)
+
+    def test_rows_of_an_insert(self):
+        for query, rows, wanted in (
+            (INSERT, [(1, "a"), [2, "%"], (n for n in (3, None))], b"INSERT INTO t VALUES (1, 'a'), (2, '%'), (3, NULL)"),
+            (b"insert t value(?)", [[0.5], [decimal.Decimal("1.50")]], b"insert t value(0.5e0), (1.50)"),
+            (
+                "REPLACE INTO `a ?`.b (`x)`, y) VALUES ( :Y , :x ) ;",
+                [{"x": 1, "Y": "),("}, {"Y": b"\xff", "x": [7], "z": 0}],
+                b"REPLACE INTO `a ?`.b (`x)`, y) VALUES ( '),(' , 1 ), ( 0xFF , 7 ) ;",
+            ),
+            (
+                "INSERT IGNORE INTO t(a)VALUES(?) ON DUPLICATE KEY UPDATE a = VALUES(a) + 1",
+                [[1], [Identifier("b")]],
+                b"INSERT IGNORE INTO t(a)VALUES(1), (`b`) ON DUPLICATE KEY UPDATE a = VALUES(a) + 1",
+            ),
+        ):
+            connection = PyMySQL()
+            self.assertEqual(executemany(connection.cursor(), query, iter(rows)), 3)
+            self.assertEqual(connection.sent, [wanted])
+            executemany(connection.cursor(), query, [next(iter(rows))])
+            self.assertEqual(len(connection.sent), 2)
+
+    def test_rows_of_an_insert_in_few_texts(self):
+        rows = [(i, "it's " * (i % 9)) for i in range(5_000)]
+        head = b"INSERT INTO t VALUES "
+        for packet in (1 << 20, 1 << 14, 1 << 10, 90, 83):
+            connection = PyMySQL(packet=packet)
+            self.assertEqual(executemany(connection.cursor(), INSERT, iter(rows)), 3 * len(connection.sent))
+            self.assertTrue(all(len(text) <= packet - 4 for text in connection.sent))
+            texts = [text[len(head) :] for text in connection.sent]
+            self.assertTrue(head + b", ".join(texts) == mysql_params.bind(ROWS, [rows]))
+            # The next row wouldn't have fitted into a text.
+            after = [text.partition(b"), (")[0] for text in texts[1:]]
+            self.assertTrue(all(len(head + a + b) + 3 > packet - 4 for a, b in zip(texts, after)))
+        self.assertGreater(len(connection.sent), 3_000)
+
+    def test_inserts_of_another_kind(self):
+        rows = [(1, 2), (3, 4)]
+        for query in (
+            "INSERT INTO t VALUES (?, ? + 1)",
+            "INSERT INTO t VALUES (0, 0), (?, ?)",
+            "INSERT INTO t SELECT 0, 0 UNION VALUES (?, ?)",
+            "INSERT INTO t (a, b) SELECT ?, ?",
+            "INSERT INTO t VALUES (?, ?) RETURNING a",
+            "INSERT INTO t VALUES (?, 1) ON DUPLICATE KEY UPDATE a = ?",
+            "INSERT INTO u VALUES (1); INSERT INTO t VALUES (?, ?)",
+            "INSERT INTO t VALUES (?, ?); DELETE FROM u",
+            "INSERT INTO t VALUES (?, ?) ON DUPLICATE KEY UPDATE a = 1; DELETE FROM u",
+            "/* one */ INSERT INTO t VALUES (?, ?)",
+            "INSERT INTO t /* one */ VALUES (?, ?)",
+            "INSERT INTO t VALUES (?, ?) /* one */",
+            "SELECT 'INSERT INTO t VALUES (?)' IN (?, ?)",
+        ):
+            connection = PyMySQL()
+            with self.subTest(query=query):
+                self.assertEqual(executemany(connection.cursor(), query, rows), 6)
+                self.assertEqual(connection.sent, [mysql_params.bind(query, row) for row in rows])
 
     def test_the_row_that_is_refused(self):
         good = [(i, "a") for i in range(20_000)]

@@ -186,13 +186,14 @@ def asked_once(session):
 
 
 def many(session):
-    """Rows are stored as they were handed in, by a text for each and by few; of what is refused nothing is."""
+    """Rows are stored as they were handed in, by a text for each and by one; of what is refused nothing is."""
     columns = "(i INT, v VARCHAR(20), p DECIMAL(65, 0))"
     session.run(f"CREATE TEMPORARY TABLE strings.many {columns} CHARACTER SET utf8mb4")
     rows = [(i, value, decimal.Decimal(10**64 + i) if i % 2 else 10**64 + i) for i, value in enumerate(HOSTILE)]
     wanted = [(i, value, decimal.Decimal(10**64 + i)) for i, value, _ in rows]
     last = len(rows)
-    sends = ((mysql_params.executemany, "(?, ?, ?)", last), (mysql_params.execute_rows, "?", 1))
+    sends = ((mysql_params.executemany, "(?, ?, ?)", 1), (mysql_params.executemany, "(?, ?, ?) /* each */", last))
+    sends = (*sends, (mysql_params.execute_rows, "?", 1))
     for call, place, texts in sends:
         for sql_mode in ("", NONE):
             session.run(f"SET sql_mode = '{sql_mode}'")

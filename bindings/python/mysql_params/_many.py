@@ -1,8 +1,9 @@
-"""Many rows sent by a driver: a text for each of them, or few texts, each of many rows."""
+"""Many rows sent by a driver: a text for each of them, or few texts, each of the rows of an INSERT that fit into it."""
 
 from __future__ import annotations
 
 import datetime
+import re
 from collections.abc import Iterable, Mapping
 from typing import Any, NoReturn, Optional, Union
 
@@ -29,6 +30,38 @@ def _texts(query: bytes, told: Told, rows: Iterable[object], zone: Optional[date
     return texts
 
 
+_NAME = rb"(?:`[^`]+`|[A-Za-z0-9_$\x80-\xff]+)"
+_PLACE = rb"(?:\?|:[A-Za-z_][A-Za-z0-9_]*)"
+_INSERT = re.compile(
+    rb"(?P<head>\s*(?:INSERT|REPLACE)(?:\s+(?:LOW_PRIORITY|HIGH_PRIORITY|DELAYED|IGNORE))*(?:\s+INTO)?\s+~N(?:\s*\.\s*~N)?"
+    rb"\s*(?:\(\s*~N(?:\s*,\s*~N)*\s*\)\s*)?\bVALUES?\s*)\(\s*~P(?:\s*,\s*~P)*\s*\)"
+    rb"(?P<tail>\s*(?:ON\s+DUPLICATE\s[^?:;]*)?;?\s*)\Z".replace(b"~N", _NAME).replace(b"~P", _PLACE),
+    re.IGNORECASE,
+)
+"""An INSERT of one row of places, after which no place stands. Its head has no string, no comment, no SELECT and no other statement,
+so that the row is one, and nothing except it is done for each."""
+
+_BETWEEN_ROWS = b", "
+
+
+def _joined(texts: list[bytes], insert: re.Match[bytes], most: int) -> list[bytes]:
+    """Return few texts of the rows of all, none longer than it may be, unless it is of one row."""
+    head, tail = insert["head"], insert["tail"]
+    begin, end = len(head), len(tail)
+    room = most - begin - end
+    joined, rows, size = [], list[bytes](), 0
+    for text in texts:
+        row = text[begin : len(text) - end]
+        size += len(row) + len(_BETWEEN_ROWS)
+        if rows and size - len(_BETWEEN_ROWS) > room:
+            joined.append(head + _BETWEEN_ROWS.join(rows) + tail)
+            rows, size = [], len(row) + len(_BETWEEN_ROWS)
+        rows.append(row)
+    if rows:
+        joined.append(head + _BETWEEN_ROWS.join(rows) + tail)
+    return joined
+
+
 def _sent(cursor: Any, texts: Iterable[bytes]) -> int:
     """Send texts one after another, and return the sum of their rows."""
     total = 0
@@ -46,15 +79,21 @@ def executemany(
     zone: Optional[datetime.tzinfo] = None,
     always_ask: bool = False,
 ) -> int:
-    """Bind a query to the parameters of each row, then send a text for each. Return the sum of the rows they changed.
+    """Bind a query to the parameters of each row, then send the texts. Return the sum of the rows they changed.
+
+        mysql_params.executemany(cursor, "INSERT INTO t (id, name) VALUES (:id, :name)", rows)
+
+    Of an INSERT or a REPLACE whose VALUES are one row of places, the rows go out in few texts, as by execute_rows: as many rows in
+    each as max_allowed_packet takes, up to 16 MiB. Before VALUES stand only names, and behind the row only ON DUPLICATE KEY UPDATE
+    without places. Of another query each row's text is sent by itself. For each row's lastrowid take execute.
 
     The query is parsed once for many rows, and the connection is asked before the first. All are bound before the first text
     is sent: if one is refused, nothing was sent, and the refusal's attribute `row` is its number from 0. Raise as execute.
-    To insert very many rows take execute_rows, which sends few texts.
     """
     connection, query = connection_of(cursor), _form.bytes_of(query)
     told = told_for(connection, query, always_ask)
-    return _sent(cursor, _texts(query, told, rows, zone_of(zone)))
+    texts, insert = _texts(query, told, rows, zone_of(zone)), _INSERT.match(query)
+    return _sent(cursor, texts if insert is None else _joined(texts, insert, min(told.most, _LONGEST_TEXT)))
 
 
 _LONGEST_TEXT = 1 << 24
