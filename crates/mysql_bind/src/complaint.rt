@@ -113,6 +113,9 @@ pub fn failed_file(alloc: Global, path: &str, error: &io::Error) -> Result<Compl
     if error.kind() == io::ErrorKind::OutOfMemory {
         return Ok(Complaint::Memory);
     }
+    if error.kind() == io::ErrorKind::IsADirectory {
+        return Ok(bad_file(alloc, path, "this is a folder: name a file in it"));
+    }
     let what = format!(in alloc; "{error}")?;
     Ok(bad_file(alloc, path, what.as_str()))
 }

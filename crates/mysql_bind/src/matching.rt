@@ -143,6 +143,33 @@ fn add_missing(
     Ok(())
 }
 
+// The words that stand behind a colon anywhere in a text, in quotes and comments too.
+fn words_behind_colons(alloc: Global, text: &[u8]) -> Result<BTreeSet<&[u8]>, AllocError> {
+    let mut words = BTreeSet::new(alloc);
+    for (at, byte) in text.iter().enumerate() {
+        if *byte == b':' {
+            let rest = text.get(at.saturating_add(1)..).unwrap_or(b"");
+            let len = match rest.iter().position(|byte| !is_of_names(*byte)) {
+                Some(len) => len,
+                None => rest.len(),
+            };
+            is_new(&mut words, rest.get(..len).unwrap_or(b""))?;
+        }
+    }
+    Ok(words)
+}
+
+// Why a query that holds these words behind colons has no such name.
+fn unused_hint(words: &BTreeSet<&[u8]>, name: &[u8]) -> &'static str {
+    if !name.iter().all(|byte| is_of_names(*byte)) {
+        ", since names are of A to Z, a to z, 0 to 9 and _"
+    } else if words.contains(name) {
+        ", except in quotes or a comment"
+    } else {
+        ""
+    }
+}
+
 /// Adds a fault for each value without a name in the query.
 pub fn add_unused(
     faults: &mut Vec<Fault>,
@@ -151,15 +178,16 @@ pub fn add_unused(
     numbers: &BTreeMap<Vec<u8>, usize>,
     values: &Values,
 ) -> Result<(), AllocError> {
+    let is_used = |assignment: &Assignment| numbers.contains_key(assignment.name.as_slice());
+    if values.assignments.iter().all(is_used) {
+        return Ok(());
+    }
+    let words = words_behind_colons(alloc, query.bytes.as_slice())?;
     for i in 0..values.assignments.len() {
-        if !numbers.contains_key(values.assignments[i].name.as_slice()) {
+        let name = values.assignments[i].name.as_slice();
+        if !numbers.contains_key(name) {
             let origin = origin_at(values, i);
-            let name = values.assignments[i].name.as_slice();
-            let hint = if name.iter().all(|byte| is_of_names(*byte)) {
-                ""
-            } else {
-                ", since names are of A to Z, a to z, 0 to 9 and _"
-            };
+            let hint = unused_hint(&words, name);
             let what = format!(in alloc;
                 "{origin}: {} has no such name{hint} (--allow-unused takes it)",
                 query.path
