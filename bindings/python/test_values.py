@@ -101,7 +101,7 @@ class Test(unittest.TestCase):
             (range(2), TypeError, "is a range, which is no list: give list(..) of it"),
             ((number for number in (1, 2)), TypeError, "is a generator, which is no list: give list(..) of it"),
             ({1: 2}.values(), TypeError, "is a dict_values, which is no list: give list(..) of it"),
-            ({1: 2}, TypeError, "is of type dict, which has no literal"),
+            ({1: 2}, TypeError, "is of type dict, which has no literal: give json.dumps(..) of it, or register(dict, json.dumps)"),
         ):
             with self.subTest(value=value), self.assertRaises(kind) as raised:
                 bind("?", [value])
@@ -371,13 +371,19 @@ class Test(unittest.TestCase):
         for word in others:
             with self.subTest(word=word), self.assertRaises(mysql_params.FragmentError) as raised:
                 bind(":a", {"a": mysql_params.Keyword(word, among=(word,))})
-            message = "it is none of the keywords that are written: the value of `:a`"
+            message = "it is none of the keywords in capitals that KEYWORDS lists: the value of `:a`"
             self.assertEqual(str(raised.exception), f"Fragment at place 0 can't be written: {message}")
 
     def test_types_that_cannot_be_registered(self):
         for kind in (int, str, bool, type(None), bytes, datetime.datetime, object):
             with self.subTest(kind=kind), self.assertRaises(ValueError):
                 register(kind, str)
+        with self.assertRaises(ValueError) as raised:
+            register(float, repr)
+        message = "float can't be registered: values of it are bound by themselves, and bind_in_both_modes takes repr(value)"
+        self.assertEqual(str(raised.exception), message)
+        self.assertEqual(bind("?", [1.5]), b"1.5e0")
+        self.assertEqual(mysql_params.bind_in_both_modes("?", [repr(1.5)]), b"_utf8mb4'1.5'")
         for kind, function in (("int", str), (Color, "text"), (None, str)):
             with self.subTest(kind=kind), self.assertRaises(TypeError):
                 register(kind, function)

@@ -32,7 +32,11 @@ def _cast(which: Union[bytes, int], digits: str) -> str:
 
 def bytes_of(text: object) -> bytes:
     """Return the bytes of a text: those of its UTF-8 if it is a str."""
-    return str.encode(text) if isinstance(text, str) else copy(text)
+    if isinstance(text, str):
+        return str.encode(text)
+    if isinstance(text, (bytes, bytearray, memoryview)):
+        return copy(text)
+    raise TypeError(f"a str or bytes are wanted, and not {type(text).__name__}")
 
 
 def copy(source: object) -> bytes:
@@ -149,7 +153,8 @@ def value_form(value: object, which: Union[bytes, int], zone: Optional[datetime.
         raise TypeError(f"{place(which)} is a {kind}, which has no literal: write a place for each of its values")
     if isinstance(value, datetime.time):
         raise TypeError(f"{place(which)} is a {kind} with a time zone, which has no literal")
-    raise TypeError(f"{place(which)} is of type {kind}, which has no literal")
+    to_do = ": give json.dumps(..) of it, or register(dict, json.dumps)" if isinstance(value, dict) else ""
+    raise TypeError(f"{place(which)} is of type {kind}, which has no literal{to_do}")
 
 
 def name_of(name: object, number: int) -> bytes:

@@ -41,7 +41,7 @@ def register(kind: type[_Kind], function: Callable[[_Kind], object]) -> None:
 
     The function returns a value that is bound, also one of another registered type. The nearest type of a value counts;
     a later function for a type takes the place of an earlier one. It holds for all calls of the process. Raise
-    ValueError for a type that has a literal itself, as int and str.
+    ValueError for a type that has a literal itself, as int, float and str.
 
     >>> import fractions, mysql_params
     >>> mysql_params.register(fractions.Fraction, lambda value: f"{value.numerator}/{value.denominator}")
@@ -51,7 +51,8 @@ def register(kind: type[_Kind], function: Callable[[_Kind], object]) -> None:
     if not isinstance(kind, type):
         raise TypeError(f"a type is wanted, and not {type(kind).__name__}")
     if kind in _BOUND or kind is object:
-        raise ValueError(f"{kind.__name__} can't be registered: values of it are bound by themselves")
+        to_do = ", and bind_in_both_modes takes repr(value)" if kind is float else ""
+        raise ValueError(f"{kind.__name__} can't be registered: values of it are bound by themselves{to_do}")
     if not callable(function):
         raise TypeError(f"a function is wanted, and not {type(function).__name__}")
     _REGISTERED[kind] = function

@@ -18,6 +18,7 @@ _PLACE_OF_MANY = re.compile(rb"\bIN\s*\(\s*\?\s*\)|\bVALUES\s*\?", re.I)
 
 _ALPHABET = "names are of ASCII letters, digits and _"
 
+_PLACE_AT = re.compile(rb":[A-Za-z0-9_]*|\?")
 _NO_NAME = re.compile(rb"[\x80-\xff]")
 _WORD = re.compile(rb"[A-Za-z0-9_]*[\x80-\xff][A-Za-z0-9_\x80-\xff]*")
 _WORD_WITHOUT_NAME = re.compile(rb":([\x80-\xff][A-Za-z0-9_\x80-\xff]*)")
@@ -216,11 +217,18 @@ class NotAloneError(_WordError):
     position: int
     _fields: tuple[str, ...] = ("place", "position")
     _text = "Place {place} at byte {position} does not stand alone"
+    _hint: str = ""
 
     def _look_at(self, query: bytes) -> None:
-        """Take the word that begins with the place's name, if it has one."""
+        """Take the word that begins with the place's name, if it has one; else see whether a point stands beside it."""
         if query[self.position : self.position + 1] == b":":
             self._take(_WORD.match(query, self.position + 1))
+        found = _PLACE_AT.match(query, self.position)
+        if found is not None and b"." in (query[found.start() - 1 : found.start()], query[found.end() : found.end() + 1]):
+            self._hint = ': for a name with a point write one place, and give an Identifier of two names, as Identifier("b", "c")'
+
+    def _more(self) -> str:
+        return super()._more() or self._hint
 
 
 class FloatError(Error):
@@ -313,7 +321,7 @@ _FAULTS = {
     Fault.ZERO_BYTE: "name {item} has a byte 0",
     Fault.LONG_NAME: "name {item} has more than 64 characters",
     Fault.TRAILING_SPACE: "name {item} ends in a space",
-    Fault.KEYWORD: "it is none of the keywords that are written",
+    Fault.KEYWORD: "it is none of the keywords in capitals that KEYWORDS lists",
     Fault.BACKSLASH: "name {item} has a backslash before a backquote or at its end",
 }
 
