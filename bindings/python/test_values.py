@@ -322,15 +322,19 @@ class Test(unittest.TestCase):
                 self.assertEqual(bind(":a", {"a": value}), wanted)
 
     def test_lists_that_are_refused(self):
+        to_do = "lists and rows are of values, so write a place for each"
         for value, message in (
             ([(1,), 2], "the value of `:a` has rows and values: give a list of values, or one of rows alone"),
             ([[(1,)]], "the value of `:a` has a tuple in a row: rows are of values"),
             ([{1}], "the value of `:a` is a set, which has no literal"),
-            ([mysql_params.Identifier("t")], "the value of `:a` is of type Identifier, which has no literal"),
+            ([1, mysql_params.Identifier("t")], "the value of `:a` has an item that is of type Identifier: " + to_do),
+            ([(mysql_params.Keyword("NULL", among=("NULL",)),)], "the value of `:a` has an item that is of type Keyword: " + to_do),
         ):
             with self.subTest(value=value), self.assertRaises(TypeError) as raised:
                 bind(":a", {"a": value})
             self.assertIn(message, str(raised.exception))
+        names = [mysql_params.Identifier("a"), mysql_params.Identifier("b`")]
+        self.assertEqual(bind(f"SELECT {', '.join('?' * len(names))}", names), b"SELECT `a`, `b```")
 
     def test_many_items(self):
         numbers = list(range(-50_000, 50_000))

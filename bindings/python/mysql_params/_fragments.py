@@ -139,6 +139,9 @@ def item_form(value: object, which: Union[bytes, int], zone: Optional[datetime.t
         return _number(value, which)
     if isinstance(value, (list, tuple)):
         raise TypeError(f"{_form.place(which)} has a {type(value).__name__} in a row: rows are of values")
+    if isinstance(value, (Identifier, Keyword)):
+        kind, to_do = type(value).__name__, "lists and rows are of values, so write a place for each"
+        raise TypeError(f"{_form.place(which)} has an item that is of type {kind}: {to_do}")
     wide = _wide_number(value, which)
     return _form.value_form(value, which, zone) if wide is None else wide
 
