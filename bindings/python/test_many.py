@@ -1,8 +1,10 @@
 """Tests of many rows sent by a driver, over the server and the drivers that test_sending.py plays."""
 
+import collections
 import datetime
 import decimal
 import sys
+import types
 import unittest
 
 import mysql_params
@@ -198,6 +200,80 @@ class Test(unittest.TestCase):
         self.assertEqual(connection.sent, [b"VALUES ('\\') ON DUPLICATE KEY UPDATE a = 1"])
         self.assertEqual(execute_rows(connection.cursor(), ROWS, iter(())), 0)
         self.assertEqual(len(connection.sent), 1)
+
+    def test_rows_by_name(self):
+        rows = [{"id": 1, "name": "it's"}, collections.OrderedDict(name=None, id=0.5), types.MappingProxyType({"name": 2, "id": 3})]
+        wanted = b"INSERT INTO t VALUES (1, 'it\\'s'), (0.5e0, NULL), (3, 2)"
+        for query in (ROWS, "INSERT INTO t VALUES :rows"):
+            connection = PyMySQL()
+            execute_rows(connection.cursor(), query, iter(rows))
+            self.assertEqual(connection.sent, [wanted])
+
+    def test_rows_with_other_names(self):
+        first = {"id": 1, "name": "a"}
+        for row, kind, message in (
+            ({"id": 1}, ValueError, "row {} lacks the name 'name' of the first row"),
+            ({"id": 1, "Name": 2}, ValueError, "row {} lacks the name 'name' of the first row"),
+            ({"id": 1, "name": 2, "b": 3}, ValueError, "row {} has the name 'b', which the first row lacks"),
+            ((1, 2), TypeError, "row {} is a tuple, and the first row has names"),
+        ):
+            for at in (1, 2_000):
+                with self.subTest(row=row, at=at):
+                    rows = [*[first] * at, row, first, {}]
+                    found = self.refused(kind, execute_rows, ROWS, rows, PyMySQL(packet=1 << 12))
+                    self.assertEqual((found.row, str(found)), (at, message.format(at)))
+        found = self.refused(mysql_params.FragmentError, execute_rows, ROWS, [{}])
+        self.assertEqual((found.fault, found.in_row), (Fault.EMPTY_ROW, 0))
+        # An earlier row is told.
+        found = self.refused(mysql_params.FloatError, execute_rows, ROWS, [first, {"name": NAN, "id": 0}, {"id": 1}])
+        self.assertEqual(found.row, 1)
+
+    def test_parameters_beside_rows(self):
+        query = "INSERT INTO :table VALUES :rows ON DUPLICATE KEY UPDATE a = :a, b = :a"
+        beside = {"table": Identifier("s", "t"), b"a": [decimal.Decimal("1.50")], "other": 0}
+        for rows in ([(1, "x"), (2, None)], [{"i": 1, "n": "x"}, {"n": None, "i": 2}]):
+            connection = PyMySQL()
+            execute_rows(connection.cursor(), query, rows, beside)
+            wanted = b"INSERT INTO `s`.`t` VALUES (1, 'x'), (2, NULL) ON DUPLICATE KEY UPDATE a = 1.50, b = 1.50"
+            self.assertEqual(connection.sent, [wanted])
+        for nothing in (None, {}):
+            execute_rows(connection.cursor(), ROWS, [(1,)], nothing)
+            self.assertEqual(connection.sent[-1], b"INSERT INTO t VALUES (1)")
+        # Each text has room for the parameters.
+        connection, long = PyMySQL(packet=1 << 10), "'" * 200
+        execute_rows(connection.cursor(), "VALUES :r, :a", ((n, n) for n in range(500)), {"a": long})
+        self.assertTrue(all(len(text) <= 1020 for text in connection.sent))
+        self.assertTrue(all(text.count(b"), (") > 3 for text in connection.sent[:-1]))
+        between = b", '" + b"\\'" * 200 + b"'"
+        self.assertTrue(all(text.endswith(between) for text in connection.sent))
+        whole = b", ".join(text[7 : -len(between)] for text in connection.sent)
+        self.assertEqual(whole, b", ".join(b"(%d, %d)" % (n, n) for n in range(500)))
+
+    def test_parameters_beside_rows_that_are_refused(self):
+        for query, params, kind in (
+            ("VALUES ?", {"a": 1}, ValueError),
+            ("VALUES :a", {"a": 1}, ValueError),
+            ("VALUES :r, :r, :a", {"a": 1}, ValueError),
+            ("VALUES :r, :b, :a", {"a": 1}, ValueError),
+            ("VALUES :r, :a", [1], TypeError),
+            ("VALUES :r, :a", {"a": {1}}, TypeError),
+            ("VALUES :r, :a", {"a": 1, "": 1}, ValueError),
+            ("VALUES :r, :a", {"a": NAN}, mysql_params.FloatError),
+            ("VALUES :r, :a", {"a": []}, mysql_params.FragmentError),
+            ("VALUES :r, :a", {"a": 1, b"a": 1}, mysql_params.RepeatedNameError),
+            ("VALUES :r, 1:a", {"a": 1}, mysql_params.NotAloneError),
+        ):
+            with self.subTest(query=query, params=params):
+                found = self.refused(kind, execute_rows, query, [(1, 2)], params=params)
+                self.assertIsNone(getattr(found, "row", None))
+        for row, kind in (((1, NAN), mysql_params.FloatError), ((1, {2}), TypeError)):
+            found = self.refused(kind, execute_rows, "VALUES :r, :a", [(1, 2), row], params={"a": 1})
+            self.assertEqual(found.row, 1)
+        found = self.refused(mysql_params.FragmentError, execute_rows, ":a, :r", [(1, 2), (1,)], params={"a": 1})
+        self.assertEqual((found.name, found.in_row, found.fault), ("r", 1, Fault.ROW_LENGTH))
+        found = self.refused(ValueError, execute_rows, ":r, :b, :a", [(1, 2)], params={"a": 1})
+        wanted = "with parameters beside the rows one name is wanted, which takes the rows, and the query has "
+        self.assertEqual(str(found), wanted + "2 places without a parameter")
 
     def test_few_texts(self):
         rows = [(i, "it's " * (i % 9), None if i % 7 else b"\xff\0" * (i % 50)) for i in range(5_000)]

@@ -106,6 +106,8 @@ def sent(cursor: Any, connection: Any, day: datetime.datetime) -> None:
     mysql_params.execute(cursor, QUERY, values, zone=datetime.timezone.utc, always_ask=True)
     total: int = mysql_params.executemany(cursor, "?", ([number] for number in range(3)))
     total += mysql_params.execute_rows(cursor, "VALUES ?", [(1, "a"), (2, None)])
+    total += mysql_params.execute_rows(cursor, "VALUES ?", [{"id": 1, "name": "a"}], {})
+    total += mysql_params.execute_rows(cursor, "INTO :t VALUES :rows", [[1]], {"t": Identifier("t"), "x": 1})
     total += mysql_params.execute_rows(cursor, b"VALUES ?", ([n, 2**70] for n in range(3)), zone=None, always_ask=True)
     mysql_params.exec_driver_sql(connection, QUERY, {"id": total}).all()
     mysql_params.ask_again(connection)
@@ -155,6 +157,7 @@ def refused(ident: int) -> None:
     mysql_params.register("Color", str)  # type: ignore[arg-type]
     mysql_params.decimal_text(0.01)  # type: ignore[arg-type]
     mysql_params.execute_rows(None, "VALUES ?", ident)  # type: ignore[arg-type]
+    mysql_params.execute_rows(None, "VALUES ?", [[1]], [1])  # type: ignore[arg-type]
     Keyword("DESC")  # type: ignore[call-arg]
     bind_form("?", "x")  # type: ignore[arg-type]
     names(5)  # type: ignore[arg-type]

@@ -101,31 +101,58 @@ _LONGEST_TEXT = 1 << 24
 
 
 def _another_query(places: str) -> ValueError:
-    """Return what to raise for a query that hasn't one place."""
+    """Return what to raise for a query that hasn't one place for the rows."""
     to_do = "for a place for each value take executemany"
     return ValueError(f"a query with one place is wanted, which takes the rows, and it has {places}: {to_do}")
 
 
-class _Gatherer:
-    """Rows gathered to texts for the one place of a query."""
+_ONE_NULL = b"\x01\0\0\0\x06\0"
+"""A row of a NULL, whose literal is ``(NULL)``."""
 
-    def __init__(self, query: bytes, told: Told, zone: Optional[datetime.tzinfo]) -> None:
-        self.query, self.mode, self.zone = query, told.no_backslash_escape, zone
-        names = _archive.names_of(query, self.mode)[1]
-        if len(names) > 1:
-            raise _another_query(f"{len(names)} names")
-        self.name = names[0].encode() if names else b""
+
+class _Beside:
+    """The further parameters of a query that takes rows."""
+
+    def __init__(self, params: object, zone: Optional[datetime.tzinfo]) -> None:
+        if params is not None and not isinstance(params, Mapping):
+            raise TypeError(f"parameters beside rows are by name, in a mapping, and not {type(params).__name__}")
+        held = {} if params is None else dict(params)
+        self.names = {_form.name_of(name, number) for number, name in enumerate(held)}
+        self.form = _native.written(held, zone, True)[0]
+
+    def place_of_rows(self, query: bytes, mode: bool) -> bytes:
+        """Return the one name of a query that has no parameter here; an empty one for a mark."""
+        names = _archive.names_of(query, mode)[1]
+        if not self.names:
+            if len(names) > 1:
+                raise _another_query(f"{len(names)} names")
+            return names[0].encode() if names else b""
+        others = [name.encode() for name in names if name.encode() not in self.names]
+        if len(others) != 1:
+            have = f"{len(others)} places without a parameter" if names else "no name"
+            raise ValueError(f"with parameters beside the rows one name is wanted, which takes the rows, and the query has {have}")
+        return others[0]
+
+
+class _Gatherer:
+    """Rows gathered to texts for the place of a query that takes them."""
+
+    def __init__(self, query: bytes, told: Told, zone: Optional[datetime.tzinfo], beside: _Beside) -> None:
+        self.query, self.mode, self.zone, self.beside = query, told.no_backslash_escape, zone, beside.form
+        self.name = beside.place_of_rows(query, self.mode)
         self.which: Union[bytes, int] = self.name or 0
-        self.room = min(told.most, _LONGEST_TEXT) - len(query)
+        around = len(self.bound([_ONE_NULL])) if beside.names else len(query)
+        self.room = min(told.most, _LONGEST_TEXT) - around
         self.texts: list[bytes] = []
         self.forms: list[bytes] = []
         self.size = self.count = 0
+        self.columns: Optional[list[object]] = None
         self.first: Optional[bytes] = None
         self.width = b""
 
     def bound(self, forms: list[bytes]) -> bytes:
         """Return the text of rows."""
-        form = _form.string_form(self.name) + rows_form(forms)
+        form = self.beside + _form.string_form(self.name) + rows_form(forms)
         return _native.bind_written(self.query, form, self.mode, True)
 
     def refuse(self, fault: Error, forms: list[bytes], number: int) -> NoReturn:
@@ -145,6 +172,22 @@ class _Gatherer:
                     break
         raise fault
 
+    def values_of(self, row: object) -> object:
+        """Return the values of a row: of a mapping in the order of the first row's names."""
+        if self.count == 0 and isinstance(row, Mapping):
+            self.columns = list(row)
+        if self.columns is None:
+            return row
+        if not isinstance(row, Mapping):
+            raise TypeError(f"row {self.count} is a {type(row).__name__}, and the first row has names")
+        for name in self.columns:
+            if name not in row:
+                raise ValueError(f"row {self.count} lacks the name {name!r} of the first row")
+        if len(row) != len(self.columns):
+            other = next(name for name in row if name not in self.columns)
+            raise ValueError(f"row {self.count} has the name {other!r}, which the first row lacks")
+        return [row[name] for name in self.columns]
+
     def bind_gathered(self) -> None:
         """Append the text of the rows that wait for it."""
         if not self.forms:
@@ -158,6 +201,8 @@ class _Gatherer:
     def add(self, row: object) -> None:
         """Have a row stand in a text."""
         try:
+            if self.columns is not None or self.count == 0:
+                row = self.values_of(row)
             form, size = _row(row, self.which, self.zone)
         except (TypeError, ValueError, OverflowError) as fault:
             self.bind_gathered()  # It may refuse an earlier row.
@@ -191,6 +236,7 @@ def execute_rows(
     cursor: Any,
     query: Union[str, bytes],
     rows: Iterable[object],
+    params: Optional[Mapping[Any, object]] = None,
     *,
     zone: Optional[datetime.tzinfo] = None,
     always_ask: bool = False,
@@ -198,17 +244,24 @@ def execute_rows(
     """Put many rows into the one place of a query, and send few texts, each of many rows. Return the sum of their rows.
 
         mysql_params.execute_rows(cursor, "INSERT INTO t (id, name) VALUES ?", rows)
+        mysql_params.execute_rows(cursor, "INSERT INTO :table (id, name) VALUES :rows", rows, {"table": Identifier(table)})
 
-    A row is a list or a tuple, of values and exact numbers. As many rows go into a text as are sure to fit into the
-    server's max_allowed_packet, up to 16 MiB. Each text is a statement of its own: for all or none begin a transaction. All
-    are bound before the first is sent: if one is refused, nothing was sent. No rows send nothing.
+    Parameters beside the rows are by name, and stand in each text. The one name without a parameter takes the rows.
 
-    Raise as execute, and ValueError for a query of several places. A FragmentError's `in_row`, and the `row` of another
-    refusal of a row, is the row's number from 0 among all.
+    A row is a list, a tuple or a mapping, of values and exact numbers. Of mappings the values go in the order of the first row's
+    names: write the query's columns in this order. A mapping with other names is a ValueError, which tells the row.
+
+    As many rows go into a text as are sure to fit into the server's max_allowed_packet, up to 16 MiB. Each text is a statement of
+    its own: for all or none begin a transaction. All are bound before the first is sent: if one is refused, nothing was sent. No
+    rows send nothing.
+
+    Raise as execute, and ValueError for a query without just one place for the rows. A FragmentError's `in_row`, and the `row` of
+    another refusal of a row, is the row's number from 0 among all.
     """
     connection, query = connection_of(cursor), _form.bytes_of(query)
+    beside = _Beside(params, zone_of(zone))
     told = told_for(connection, query, always_ask)
-    gatherer = _Gatherer(query, told, zone_of(zone))
+    gatherer = _Gatherer(query, told, zone_of(zone), beside)
     for row in rows:
         gatherer.add(row)
     gatherer.bind_gathered()
