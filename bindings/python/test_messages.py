@@ -1,10 +1,12 @@
 """Tests of messages that say what to write instead."""
 
+import re
 import sys
 import unittest
 
 import mysql_params
 from mysql_params import bind
+from shared_cases import CASES
 from test_mysql_params import Result
 
 
@@ -38,6 +40,17 @@ class Test(unittest.TestCase):
             self.assertEqual(str(raised.exception), f"a str or bytes are wanted, and not {type(query).__name__}")
         for query in ("SELECT 1", b"SELECT 1", bytearray(b"SELECT 1")):
             self.assertEqual(bind(query), b"SELECT 1")
+
+    def test_comments_of_the_page(self):
+        page = (CASES.parent.parent / "packages" / "python.md").read_text()
+        row = next(line for line in page.splitlines() if line.startswith("| `UnportableError`"))
+        refused, taken = (re.findall(r"`(/\*.*?\*/)`", part) for part in row.split("A quiet comment"))
+        self.assertEqual((len(refused), len(taken)), (2, 1))
+        for comment in refused:
+            found = mysql_params.first_unportable(f"SELECT {comment} 1")
+            self.assertEqual((found.construct, found.position), (mysql_params.Construct.EXECUTABLE_COMMENT, 7))
+        for comment in taken:
+            self.assertIsNone(mysql_params.first_unportable(f"SELECT {comment} 1"))
 
 
 if __name__ == "__main__":
