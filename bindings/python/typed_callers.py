@@ -34,6 +34,10 @@ def by_name(ident: int, name: str, born: Optional[datetime.date], anything: Any)
     of_both: dict[Union[str, bytes], Value] = {"id": ident, b"name": name}
     bind(QUERY, of_both)
     bind(QUERY, OrderedDict(id=ident))
+    bind("SELECT 1", {})
+    bind_anywhere("SELECT 1", {})
+    bind_in_both_modes("SELECT 1", {})
+    bind_rows("SELECT 1", [{}, {}])
     bind(QUERY, anything)
     return bind(QUERY, dict(id=ident), no_backslash_escape=True)
 

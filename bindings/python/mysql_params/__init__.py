@@ -23,7 +23,7 @@ import datetime
 import enum
 import uuid
 from collections.abc import Iterable, Iterator, Mapping, Sequence, ValuesView
-from typing import NamedTuple, Optional, Union
+from typing import NamedTuple, NoReturn, Optional, Union
 
 from . import _archive, _form, _native
 from ._fragments import KEYWORDS, Identifier, Keyword
@@ -143,11 +143,13 @@ Params = Union[
     Mapping[str, object],
     Mapping[bytes, object],
     Mapping[Union[str, bytes], object],
+    Mapping[NoReturn, NoReturn],
 ]
 """Nothing, values in order, or values by name. No values are as nothing.
 
 A value is a Value, or of a type that is registered, or what bind takes beside them; anything else is a TypeError of the
-call. The annotation says less, since to mypy ``{"id": 42, "name": "x"}`` is a ``dict[str, object]``. Annotate your own by Value:
+call. The annotation says less, since to mypy ``{"id": 42, "name": "x"}`` is a ``dict[str, object]``. Its last
+mapping is for ``{}``, of which mypy finds no types. Annotate your own by Value:
 ``params: dict[str, Value] = {}``.
 """
 
