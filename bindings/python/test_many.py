@@ -325,6 +325,9 @@ class Test(unittest.TestCase):
         # The first that is refused is told.
         found = self.refused(mysql_params.FloatError, execute_rows, ROWS, [(0.5, 2), (1, NAN), (1,), (1, {2})])
         self.assertEqual(found.row, 1)
+        # Of a row of another width, what its values are refused for.
+        found = self.refused(mysql_params.FloatError, execute_rows, ROWS, [(1, 2), (3, 4), (NAN,)])
+        self.assertEqual(found.row, 2)
         for row in ("ab", b"ab", {1: 2}, {1}, 7, None):
             found = self.refused(TypeError, execute_rows, ROWS, [(1, 2), row])
             self.assertEqual(found.row, 1)

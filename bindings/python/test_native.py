@@ -5,8 +5,10 @@ import datetime
 import decimal
 import enum
 import itertools
+import os
 import random
 import resource
+import signal
 import sys
 import threading
 import time
@@ -15,7 +17,8 @@ import uuid
 from unittest import mock
 
 import mysql_params
-from mysql_params import Identifier, Keyword, _form, _fragments, _native, _values, bind, bind_anywhere, bind_rows
+from mysql_params import Identifier, Keyword, _archive, _form, _fragments, _many, _native, _values, bind, bind_anywhere
+from mysql_params import bind_rows
 from test_mysql_params import Result
 
 UTC = datetime.timezone.utc
@@ -93,6 +96,45 @@ class Test(unittest.TestCase):
         registered = mock.patch.dict(_values._REGISTERED, clear=True)
         registered.start()
         self.addCleanup(registered.stop)
+
+    def test_a_taken_lock_of_tables(self):
+        """A call that interrupts another waits for no lock, and a forked process has one of its own."""
+        query = "SELECT ?, '" + "x" * 5_000 + "'"
+        tables = _archive.TABLES
+        with tables.lock:
+            self.assertEqual(bind(query, [1]), query.replace("?", "1").encode())
+            child = os.fork()
+            if child == 0:
+                os._exit(0 if tables.lock.acquire(blocking=False) and not tables.kept else 1)
+        self.assertEqual(os.waitpid(child, 0)[1], 0)
+
+    def test_the_size_of_tables_is_summed(self):
+        """A size that an interrupted call left wrong is right again with the next table."""
+        tables = _archive.TABLES
+        tables.size = 1 << 40
+        query = "SELECT ?, '" + "y" * 5_000 + "'"
+        self.assertEqual(bind(query, [2]), query.replace("?", "2").encode())
+        self.assertEqual(tables.size, sum(table.size for table in tables.kept.values()))
+
+    def test_signals_within_rows(self):
+        """The handler of a signal runs while rows with floats are bound, which are bound one by one."""
+
+        def stop(*_):
+            raise InterruptedError
+
+        self.addCleanup(signal.signal, signal.SIGPROF, signal.signal(signal.SIGPROF, stop))
+        rows = [(1.5, 2)] * 3_000_000
+        begun = time.process_time()
+        signal.setitimer(signal.ITIMER_PROF, 0.05)
+        with self.assertRaises(InterruptedError):
+            bind_rows("INSERT INTO t VALUES (?, ?)", rows)
+        self.assertLess(time.process_time() - begun, 0.5)
+
+    def test_a_long_run_of_blanks_in_an_insert(self):
+        """An INSERT is told from another query in time that grows as the query does."""
+        begun = time.process_time()
+        self.assertIsNone(_many._INSERT.match(b"INSERT INTO t VALUES (?) ON DUPLICATE " + b" " * 20_000 + b"?"))
+        self.assertLess(time.process_time() - begun, 0.5)
 
     def compare(self, value, zone=None):
         """A value has the form, or the exception, that the functions in Python have for it."""

@@ -4,6 +4,7 @@ from __future__ import annotations
 
 import datetime
 import decimal
+import os
 import threading
 from collections import OrderedDict
 from collections.abc import Iterable
@@ -49,39 +50,58 @@ class Tables:
     def __init__(self, most: int, size: int, least: int) -> None:
         """Keep so many tables at most, of so many bytes in all with their queries, of queries of at least so many bytes."""
         self.most, self.room, self.least = most, size, least
+        self.forget()
+
+    def forget(self) -> None:
+        """Keep none. A process that was forked calls it, since another thread may have held the lock."""
         self.size = 0
         self.kept: OrderedDict[tuple[bool, bool, Union[str, bytes]], Table] = OrderedDict()
         self.lock = threading.Lock()
 
     def of(self, query: object, mode: object) -> Optional[Table]:
-        """Return the table of a query in a mode; None if none is kept of such a query."""
+        """Return the table of a query in a mode; None if none is kept of such a query, or if the lock is taken.
+
+        It never waits for the lock: a call in a handler of a signal may have interrupted the one that has it.
+        """
         if type(query) is not str and type(query) is not bytes or type(mode) is not bool:
             return None
         if len(query) < self.least or len(query) > self.room:
             return None
         key = (type(query) is str, mode, query)
-        with self.lock:
+        if not self.lock.acquire(blocking=False):
+            return None
+        try:
             found = self.kept.get(key)
             if found is not None:
                 self.kept.move_to_end(key)
                 return found
+        finally:
+            self.lock.release()
         made = _native.table(query, mode)
         if made.size <= self.room:
             self._keep(key, made)
         return made
 
     def _keep(self, key: tuple[bool, bool, Union[str, bytes]], made: Table) -> None:
-        """Keep a table, and as many of the last ones as there is room for."""
-        with self.lock:
-            before = self.kept.pop(key, None)
-            self.size += made.size - (0 if before is None else before.size)
+        """Keep a table, and as many of the last ones as there is room for, unless the lock is taken.
+
+        The size is summed anew, since an exception of a signal's handler may have come between any two steps before.
+        """
+        if not self.lock.acquire(blocking=False):
+            return
+        try:
+            self.kept.pop(key, None)
             self.kept[key] = made
+            self.size = sum(table.size for table in self.kept.values())
             while len(self.kept) > self.most or self.size > self.room:
                 self.size -= self.kept.popitem(last=False)[1].size
+        finally:
+            self.lock.release()
 
 
 TABLES = Tables(128, 1 << 23, 1 << 12)
 """The tables by which bind and execute bind. A short query is walked in less time than its table is found."""
+os.register_at_fork(after_in_child=TABLES.forget)
 
 
 def table_of(query: object, mode: object) -> Optional[Table]:

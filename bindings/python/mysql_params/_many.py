@@ -35,7 +35,7 @@ _PLACE = rb"(?:\?|:[A-Za-z_][A-Za-z0-9_]*)"
 _INSERT = re.compile(
     rb"(?P<head>\s*(?:INSERT|REPLACE)(?:\s+(?:LOW_PRIORITY|HIGH_PRIORITY|DELAYED|IGNORE))*(?:\s+INTO)?\s+~N(?:\s*\.\s*~N)?"
     rb"\s*(?:\(\s*~N(?:\s*,\s*~N)*\s*\)\s*)?\bVALUES?\s*)\(\s*~P(?:\s*,\s*~P)*\s*\)"
-    rb"(?P<tail>\s*(?:ON\s+DUPLICATE\s[^?:;]*)?;?\s*)\Z".replace(b"~N", _NAME).replace(b"~P", _PLACE),
+    rb"(?P<tail>\s*(?:ON\s+DUPLICATE\s[^?:;]*)?(?:;\s*)?)\Z".replace(b"~N", _NAME).replace(b"~P", _PLACE),
     re.IGNORECASE,
 )
 """An INSERT of one row of places, after which no place stands. Its head has no string, no comment, no SELECT and no other statement,
@@ -215,7 +215,7 @@ class _Gatherer:
             try:
                 self.bound([self.first, form])
             except Error as fault:
-                self.refuse(fault, [form], self.count - 1)
+                self.refuse(fault, [self.first, form], self.count - 1)
         if self.size + size > self.room:
             self.bind_gathered()
         self.forms.append(form)

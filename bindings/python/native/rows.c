@@ -7,6 +7,9 @@
  * cache with their texts, and many enough for the GIL to be let go. */
 enum { MOST_FORMS = 1 << 15, MOST_QUERIES = 1 << 18 };
 
+/* After so many rows that are bound by themselves handlers of signals and other threads run. */
+enum { ALONE_AT_ONCE = 256 };
+
 /* What a text has beside its query and its literals: its length. */
 enum { BESIDE_TEXT = 9 };
 
@@ -19,6 +22,7 @@ typedef struct binder {
     form forms; /* owned; of the rows that wait, each as a length-encoded string */
     size_t count;  /* rows that wait */
     size_t most;   /* of so many at most */
+    size_t alone;  /* rows that were bound by themselves */
     uint8_t *room; /* owned, of calloc */
     size_t room_len;
 } binder;
@@ -166,6 +170,18 @@ static void bind_before(binder *binder, size_t len)
     PyErr_Restore(kind, fault, trace);
 }
 
+/* Lets handlers of signals and other threads run, once in a while. */
+static bool let_others_run(binder *binder)
+{
+    if (++binder->alone % ALONE_AT_ONCE != 0)
+        return true;
+    if (PyErr_CheckSignals() != 0)
+        return false;
+    Py_BEGIN_ALLOW_THREADS
+    Py_END_ALLOW_THREADS
+    return true;
+}
+
 /* Binds a row by itself, whose form stands behind those that wait and is for the calls that bind fragments. */
 static bool bind_alone(binder *binder, size_t begin)
 {
@@ -176,7 +192,7 @@ static bool bind_alone(binder *binder, size_t begin)
     int status = text == NULL ? -1 : PyList_Append(binder->texts, text);
     Py_XDECREF(text);
     binder->forms.len = 0;
-    return status == 0;
+    return status == 0 && let_others_run(binder);
 }
 
 /* Has a row wait, and binds those that wait if they are many. */
