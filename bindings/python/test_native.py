@@ -130,6 +130,32 @@ class Test(unittest.TestCase):
             bind_rows("INSERT INTO t VALUES (?, ?)", rows)
         self.assertLess(time.process_time() - begun, 0.5)
 
+    def test_an_error_of_the_rows_themselves(self):
+        """What the rows' iterator raises comes after the texts of the rows before, and after the refusal of one of them."""
+
+        def raising(rows):
+            yield from rows
+            bind("SELECT ?", [])
+
+        with self.assertRaises(mysql_params.MarkCountError) as found:
+            bind_rows("SELECT ?", raising([(1,), (2,)]))
+        self.assertEqual((found.exception.row, found.exception.texts), (2, [b"SELECT 1", b"SELECT 2"]))
+        with self.assertRaises(mysql_params.MarkCountError) as found:
+            bind_rows("SELECT ?", raising([(1,), (2, 3), (4,)]))
+        self.assertEqual((found.exception.row, found.exception.texts), (1, [b"SELECT 1"]))
+
+    def test_an_error_of_a_function_that_is_registered(self):
+        """The refusal of an earlier row comes first, whatever a function of a user's own raises."""
+
+        class Key:
+            pass
+
+        mysql_params.register(Key, lambda key: {}[key])
+        self.assertRaises(KeyError, bind_rows, "SELECT ?", [(1,), (Key(),)])
+        with self.assertRaises(mysql_params.MarkCountError) as found:
+            bind_rows("SELECT ?", [(1,), (2, 3), (Key(),)])
+        self.assertEqual(found.exception.row, 1)
+
     def test_a_long_run_of_blanks_in_an_insert(self):
         """An INSERT is told from another query in time that grows as the query does."""
         begun = time.process_time()

@@ -161,14 +161,15 @@ static PyObject *native_bind(PyObject *module, PyObject *arguments)
     return text;
 }
 
-/* bind_form(query, form, mode) */
-static PyObject *native_bind_form(PyObject *module, PyObject *arguments)
+/* The text of a query, a form that is written and a mode; a fourth argument says whether the form may have fragments. */
+static PyObject *text_of_form(PyObject *module, PyObject *arguments, Py_ssize_t count)
 {
-    PyObject *taken[3], *kept = NULL, *text = NULL;
+    PyObject *taken[4], *kept = NULL, *text = NULL;
     native_state *state = state_of(module);
     question question = {.call = CALL_BIND};
-    if (state == NULL || !take_arguments(arguments, 3, taken))
+    if (state == NULL || !take_arguments(arguments, count, taken))
         return NULL;
+    question.is_fragments = count == 4 && taken[3] == Py_True;
     if (ask_about(state, &question, taken[0], taken[2], &kept))
         text = answer_of_form(state, &question, taken[1], taken[2]);
     Py_XDECREF(question.query);
@@ -176,20 +177,16 @@ static PyObject *native_bind_form(PyObject *module, PyObject *arguments)
     return text;
 }
 
+/* bind_form(query, form, mode) */
+static PyObject *native_bind_form(PyObject *module, PyObject *arguments)
+{
+    return text_of_form(module, arguments, 3);
+}
+
 /* bind_written(query, form, mode, is_fragments): a form that `written` made */
 static PyObject *native_bind_written(PyObject *module, PyObject *arguments)
 {
-    PyObject *taken[4], *kept = NULL, *text = NULL;
-    native_state *state = state_of(module);
-    question question = {.call = CALL_BIND};
-    if (state == NULL || !take_arguments(arguments, 4, taken))
-        return NULL;
-    question.is_fragments = taken[3] == Py_True;
-    if (ask_about(state, &question, taken[0], taken[2], &kept))
-        text = answer_of_form(state, &question, taken[1], taken[2]);
-    Py_XDECREF(question.query);
-    Py_XDECREF(kept);
-    return text;
+    return text_of_form(module, arguments, 4);
 }
 
 /* Binds parameters to a query without a mode: query, params, zone. */

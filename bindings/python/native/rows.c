@@ -150,11 +150,18 @@ static void tell_row(const binder *binder, PyObject *fault)
     Py_XDECREF(row);
 }
 
-/* After an exception for a row's parameters: binds the rows before it, of which one may be refused. */
-static void bind_before(binder *binder, size_t len)
+/* Whether the exception is one that the parameters of a row are refused by. */
+static bool is_of_parameters(void)
 {
-    if (!PyErr_ExceptionMatches(PyExc_TypeError) && !PyErr_ExceptionMatches(PyExc_ValueError) &&
-        !PyErr_ExceptionMatches(PyExc_OverflowError))
+    return PyErr_ExceptionMatches(PyExc_TypeError) || PyErr_ExceptionMatches(PyExc_ValueError) ||
+           PyErr_ExceptionMatches(PyExc_OverflowError);
+}
+
+/* After an exception: binds the rows before it, of which one may be refused, and tells the row if the exception is of its
+ * parameters. One that ends the program, as KeyboardInterrupt, stays as it is. */
+static void bind_before(binder *binder, size_t len, bool is_of_row)
+{
+    if (!PyErr_ExceptionMatches(PyExc_Exception))
         return;
     PyObject *kind, *fault, *trace;
     PyErr_Fetch(&kind, &fault, &trace);
@@ -165,7 +172,7 @@ static void bind_before(binder *binder, size_t len)
         Py_XDECREF(trace);
         return;
     }
-    if (fault != NULL)
+    if (is_of_row && fault != NULL)
         tell_row(binder, fault);
     PyErr_Restore(kind, fault, trace);
 }
@@ -203,7 +210,7 @@ static bool add_row(binder *binder, const writer *writer, PyObject *row)
     if (form_more(&binder->forms, 1) == NULL)
         return false;
     if (!write_params(writer, row)) {
-        bind_before(binder, begin);
+        bind_before(binder, begin, is_of_parameters());
         return false;
     }
     if (binder->forms.is_fragments)
@@ -230,7 +237,11 @@ static bool bind_all(binder *binder, const writer *writer, PyObject *rows)
         Py_DECREF(row);
     }
     Py_DECREF(iterator);
-    return done && PyErr_Occurred() == NULL && bind_waiting(binder, binder->forms.len);
+    if (done && PyErr_Occurred() != NULL) {
+        bind_before(binder, binder->forms.len, false);
+        return false;
+    }
+    return done && bind_waiting(binder, binder->forms.len);
 }
 
 /* Binds rows: a query, which is bytes, the rows, the mode, a zone, whether places take more than values, and a list of texts,
