@@ -1,9 +1,10 @@
 //! The columns of a table, and what is said of wrong ones.
-use crate::complaint::{Complaint, Fault, Place, add_fault, bad_word};
+use crate::column_words::{ColumnWords, NamedColumn};
+use crate::complaint::{Complaint, Fault, Place, add_fault};
 use crate::matching::{NamePlace, add_unused, assigned_names, is_new, note_value, note_values};
 use crate::query_file::{PlacesInOrder, QueryFile};
 use crate::told::SourceName;
-use crate::values::{TYPES, Values, type_of};
+use crate::values::Values;
 use mysql_bind_core::{Assignment, Request, ValueType};
 use mysql_records::LentField;
 use mysql_values::show::Shown;
@@ -13,19 +14,14 @@ use std::collections::{BTreeMap, BTreeSet};
 /// A column of a table.
 #[derive(Drop)]
 pub struct Column {
-    /// Its name, which is a name of the query.
-    pub name: Vec<u8>,
+    /// The name that it is bound to; none if `--column` gives this to another column.
+    pub name: Option<Vec<u8>>,
     /// How its fields are taken.
     pub value_type: ValueType,
+    /// The bytes of a field that is NULL, if some mean that.
+    pub null_text: Option<Vec<u8>>,
     /// Whether the query has the name.
     pub used: bool,
-}
-
-/// The type that a word of `--column` gives to a column.
-#[derive(Drop)]
-pub struct ColumnType {
-    name: Vec<u8>,
-    value_type: ValueType,
 }
 
 /// What the columns of a table are held against.
@@ -41,56 +37,20 @@ pub struct Wanted<'a> {
     pub numbers: BTreeMap<Vec<u8>, usize>,
     /// The values that are the same in each row.
     pub fixed: Values,
-    /// What the words of `--column` give.
-    pub types: Vec<ColumnType>,
-    /// The word of `--null-text`.
-    pub null_text: Option<Vec<u8>>,
+    /// What the words say of columns.
+    pub words: ColumnWords,
     /// Whether values without a name in the query are taken.
     pub allow_unused: bool,
     /// The path of the table, as messages have it.
     pub path: String,
 }
 
-/// The types that the words of `--column` give. A name that is given twice is refused.
-pub fn column_types(alloc: Global, words: &[&str]) -> Result<Vec<ColumnType>, Complaint> {
-    let mut types: Vec<ColumnType> = Vec::new(alloc);
-    let mut names = BTreeSet::new(alloc);
-    for word in words {
-        let (name, type_word) = match word.split_once(':') {
-            Some((name, type_word)) => (name, type_word),
-            None => (*word, ""),
-        };
-        let Some(value_type) = type_of(type_word) else {
-            let what = format!(in alloc; "--column: write NAME:TYPE, with one of {TYPES}")?;
-            return Err(bad_word(alloc, what.as_str()));
-        };
-        if !is_new(&mut names, name.as_bytes())? {
-            let what = format!(in alloc; "--column {name} is given twice")?;
-            return Err(bad_word(alloc, what.as_str()));
-        }
-        let name = Vec::from_slice(alloc, name.as_bytes())?;
-        if types.push(ColumnType { name, value_type }).is_err() {
-            return Err(Complaint::Memory);
-        }
+// A copy of bytes, if there are some.
+fn copy_of(alloc: Global, bytes: Option<&[u8]>) -> Result<Option<Vec<u8>>, AllocError> {
+    match bytes {
+        Some(bytes) => Ok(Some(Vec::from_slice(alloc, bytes)?)),
+        None => Ok(None),
     }
-    Ok(types)
-}
-
-// The types of columns by name.
-fn types_by_name<'t>(
-    alloc: Global,
-    types: &'t [ColumnType],
-) -> Result<BTreeMap<&'t [u8], ValueType>, AllocError> {
-    let mut by_name = BTreeMap::new(alloc);
-    for found in types {
-        if by_name
-            .insert(found.name.as_slice(), found.value_type)
-            .is_err()
-        {
-            return Err(AllocError);
-        }
-    }
-    Ok(by_name)
 }
 
 // The columns that a header names. NULL is the empty name, which no query has.
@@ -99,15 +59,15 @@ fn named_columns(
     wanted: &Wanted<'_>,
     header: &[LentField<'_>],
 ) -> Result<Vec<Column>, AllocError> {
-    let types = types_by_name(alloc, wanted.types.as_slice())?;
+    let by_header = wanted.words.by_header(alloc)?;
     let mut columns = Vec::new(alloc);
     for field in header {
-        let name = field.bytes().unwrap_or(b"");
+        let said = by_header.said(field.bytes().unwrap_or(b""));
         let column = Column {
-            name: Vec::from_slice(alloc, name)?,
-            // Text, unless a word says another type.
-            value_type: types.get(name).copied().unwrap_or(ValueType::Text),
-            used: wanted.numbers.contains_key(name),
+            name: copy_of(alloc, said.name)?,
+            value_type: said.value_type,
+            null_text: copy_of(alloc, said.null_text)?,
+            used: matches!(said.name, Some(name) if wanted.numbers.contains_key(name)),
         };
         if columns.push(column).is_err() {
             return Err(AllocError);
@@ -122,6 +82,36 @@ fn header_place(alloc: Global, wanted: &Wanted<'_>, line: u64) -> Result<Place, 
     Ok(Place::Row { path, line })
 }
 
+// What is wrong with a column, if something is, as it is said behind its number. `before` has the
+// names of the columns before it, and `fixed` those that have values by options.
+fn wrong_column<'c>(
+    alloc: Global,
+    wanted: &Wanted<'_>,
+    before: &mut BTreeSet<&'c [u8]>,
+    fixed: &BTreeSet<&[u8]>,
+    column: &'c Column,
+) -> Result<Option<String>, AllocError> {
+    let Some(name) = column.name.as_deref() else {
+        return if wanted.allow_unused {
+            Ok(None)
+        } else {
+            let what = ": --column takes another for its name (--allow-unused leaves this one out)";
+            Ok(Some(String::from_str(alloc, what)?))
+        };
+    };
+    let what = if !is_new(before, name)? {
+        String::from_str(alloc, " has the name of one before it")?
+    } else if fixed.contains(name) {
+        String::from_str(alloc, " has a value by an option too")?
+    } else if !column.used && !wanted.allow_unused {
+        let path = wanted.query.path;
+        format!(in alloc; ": {path} has no such name (--allow-unused takes it)")?
+    } else {
+        return Ok(None);
+    };
+    Ok(Some(what))
+}
+
 // Adds a fault for each column that stands twice, has a value by an option, or isn't in the query.
 // A column is told by its number: the first line of a table without names is a row of values.
 fn add_wrong_columns(
@@ -134,19 +124,9 @@ fn add_wrong_columns(
     let fixed = assigned_names(alloc, wanted.fixed.assignments.as_slice())?;
     let mut before = BTreeSet::new(alloc);
     for i in 0..columns.len() {
-        let name = columns[i].name.as_slice();
-        let number = i.saturating_add(1);
-        if !is_new(&mut before, name)? {
-            let what = format!(in alloc; "column {number} has the name of one before it")?;
-            add_fault(faults, header_place(alloc, wanted, line)?, what)?;
-        } else if fixed.contains(name) {
-            let what = format!(in alloc; "column {number} has a value by an option too")?;
-            add_fault(faults, header_place(alloc, wanted, line)?, what)?;
-        } else if !columns[i].used && !wanted.allow_unused {
-            let what = format!(in alloc;
-                "column {number}: {} has no such name (--allow-unused takes it)",
-                wanted.query.path
-            )?;
+        if let Some(wrong) = wrong_column(alloc, wanted, &mut before, &fixed, &columns[i])? {
+            let number = i.saturating_add(1);
+            let what = format!(in alloc; "column {number}{wrong}")?;
             add_fault(faults, header_place(alloc, wanted, line)?, what)?;
         }
     }
@@ -164,7 +144,7 @@ fn add_missing_columns(
     let fixed = wanted.fixed.assignments.as_slice();
     note_values(assigned.as_mut_slice(), &wanted.numbers, fixed);
     for column in columns {
-        let name = column.name.as_slice();
+        let name = column.name.as_deref().unwrap_or(b"");
         note_value(assigned.as_mut_slice(), &wanted.numbers, name);
     }
     let mut in_order = PlacesInOrder::new(&wanted.query);
@@ -173,8 +153,8 @@ fn add_missing_columns(
             continue;
         }
         let what = format!(in alloc;
-            "no column for `:{}` in {}: name one so, or give it by --set, --file, --env, --null, \
-             --json or --pairs",
+            "no column for `:{}` in {}: name one so, or by --column NAME=HEADER, or give it by \
+             --set, --file, --env, --null, --json or --pairs",
             Shown(place.name.as_slice()),
             wanted.path.as_str()
         )?;
@@ -183,8 +163,23 @@ fn add_missing_columns(
     Ok(())
 }
 
-// Adds a fault for each word of `--column` without a column.
-fn add_untyped(
+// What is said of a word of `--column` without a column.
+fn unknown_column(
+    alloc: Global,
+    wanted: &Wanted<'_>,
+    found: &NamedColumn,
+) -> Result<String, AllocError> {
+    let name = SourceName(found.name.as_slice());
+    let path = wanted.path.as_str();
+    if found.header.as_slice() == found.name.as_slice() {
+        return format!(in alloc; "--column {name}: {path} has no such column");
+    }
+    let header = SourceName(found.header.as_slice());
+    format!(in alloc; "--column {name}: {path} has no column with the header `{header}`")
+}
+
+// Adds a fault for each word of `--column` and `--null-of` without a column.
+fn add_unknown_columns(
     faults: &mut Vec<Fault>,
     alloc: Global,
     wanted: &Wanted<'_>,
@@ -192,14 +187,21 @@ fn add_untyped(
 ) -> Result<(), AllocError> {
     let mut names = BTreeSet::new(alloc);
     for column in columns {
-        is_new(&mut names, column.name.as_slice())?;
+        if let Some(name) = column.name.as_deref() {
+            is_new(&mut names, name)?;
+        }
     }
-    for found in wanted.types.as_slice() {
-        let name = found.name.as_slice();
-        if !names.contains(name) {
+    for found in wanted.words.named.as_slice() {
+        if !names.contains(found.name.as_slice()) {
+            let what = unknown_column(alloc, wanted, found)?;
+            add_fault(faults, Place::Words, what)?;
+        }
+    }
+    for null in wanted.words.nulls.as_slice() {
+        if !names.contains(null.name.as_slice()) {
             let what = format!(in alloc;
-                "--column {}: {} has no such column",
-                SourceName(name),
+                "--null-of {}: {} has no such column",
+                SourceName(null.name.as_slice()),
                 wanted.path.as_str()
             )?;
             add_fault(faults, Place::Words, what)?;
@@ -219,7 +221,7 @@ pub fn columns_of(
     let mut faults = Vec::new(alloc);
     add_missing_columns(&mut faults, alloc, wanted, columns.as_slice())?;
     add_wrong_columns(&mut faults, alloc, wanted, columns.as_slice(), line)?;
-    add_untyped(&mut faults, alloc, wanted, columns.as_slice())?;
+    add_unknown_columns(&mut faults, alloc, wanted, columns.as_slice())?;
     if !wanted.allow_unused {
         add_unused(
             &mut faults,

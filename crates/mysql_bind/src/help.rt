@@ -40,9 +40,12 @@ with `;` on a line of its own. The values above are the same in each row:
       --mysql-csv PATH      what a server writes by INTO OUTFILE .. FIELDS
                             TERMINATED BY ',' ENCLOSED BY '\"'
       --mysql-tsv PATH      what it writes without FIELDS, and mysql -B
-      --column NAME:TYPE    the type of a column (not NDJSON); text unless given
-      --null-text TEXT      a field that is TEXT is NULL, quoted or not (not
-                            NDJSON); without it an empty field is an empty text
+      --column NAME[:TYPE][=HEADER]  the type of a column, text unless given,
+                            and the header of the one that is bound to NAME
+      --null-text TEXT      a field that is TEXT is NULL, quoted or not; without
+                            it an empty field is an empty text
+      --null-of NAME=TEXT   the same in one column, in place of --null-text
+                            (these three not for NDJSON)
       --transaction         START TRANSACTION before the first row, COMMIT after
                             the last: a script that is cut off changes nothing
       --stream              write statements before all rows are bound: a row

@@ -65,6 +65,7 @@ fn rows<'a>(alloc: Global) -> Result<Command<'a>, AllocError> {
         .arg(one(alloc, "mysql-tsv"))?
         .arg(one(alloc, "ndjson"))?
         .arg(many(alloc, "column"))?
+        .arg(many(alloc, "null-of"))?
         .arg(one(alloc, "null-text"))?
         .arg(flag(alloc, "transaction"))?
         .arg(flag(alloc, "stream"))

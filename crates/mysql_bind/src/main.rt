@@ -5,6 +5,7 @@
 
 mod all_faults;
 mod changed_text;
+mod column_words;
 mod columns;
 mod commands;
 mod complaint;

@@ -150,8 +150,10 @@ fn bound_names<'n>(
 ) -> Result<Vec<&'n [u8]>, AllocError> {
     let mut names = Vec::new(alloc);
     for column in columns {
-        if column.used {
-            names.push(column.name.as_slice())?;
+        if let Some(name) = column.name.as_deref()
+            && column.used
+        {
+            names.push(name)?;
         }
     }
     for fixed in wanted.fixed.assignments.as_slice() {
@@ -178,11 +180,15 @@ fn fixed_cells<'n>(alloc: Global, wanted: &'n Wanted<'_>) -> Result<Vec<Cell<'n>
 }
 
 // The columns, as records are bound by them.
-fn table_columns(alloc: Global, columns: &[Column]) -> Result<Vec<TableColumn>, AllocError> {
+fn table_columns<'c>(
+    alloc: Global,
+    columns: &'c [Column],
+) -> Result<Vec<TableColumn<'c>>, AllocError> {
     let mut taken = Vec::with_capacity(alloc, columns.len())?;
     for column in columns {
         taken.push(TableColumn {
             value_type: column.value_type,
+            null_text: column.null_text.as_deref(),
             used: column.used,
         })?;
     }
@@ -329,7 +335,6 @@ fn add_table(
         form: TableForm {
             format: table.format,
             columns: taken.as_slice(),
-            null_text: wanted.null_text.as_deref(),
             fixed: fixed.as_slice(),
         },
     };

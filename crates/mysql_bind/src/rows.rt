@@ -1,5 +1,6 @@
 //! The command `rows`: the query once for each row of a table.
-use crate::columns::{Wanted, column_types};
+use crate::column_words::ColumnWords;
+use crate::columns::Wanted;
 use crate::complaint::{Complaint, bad_word};
 use crate::json_members::Decimals;
 use crate::json_rows::add_objects;
@@ -53,11 +54,13 @@ fn table_of<'a>(alloc: Global, matches: &ArgMatches<'a>) -> Result<(Form, &'a st
 
 // Refuses options that don't go together.
 fn check_options(alloc: Global, matches: &ArgMatches<'_>, form: Form) -> Result<(), Complaint> {
-    let typed = matches.get_strs("column").is_some() || matches.get_str("null-text").is_some();
+    let typed = matches.get_strs("column").is_some()
+        || matches.get_strs("null-of").is_some()
+        || matches.get_str("null-text").is_some();
     if form == Form::Ndjson && typed {
         return Err(bad_word(
             alloc,
-            "--column and --null-text are not for --ndjson: JSON has types and null",
+            "--column, --null-of and --null-text are not for --ndjson: JSON has types and null",
         ));
     }
     if matches.get_flag("stream") && matches.get_str("output").is_some() {
@@ -67,14 +70,6 @@ fn check_options(alloc: Global, matches: &ArgMatches<'_>, form: Form) -> Result<
         ));
     }
     Ok(())
-}
-
-// The word of `--null-text`.
-fn null_text_of(alloc: Global, matches: &ArgMatches<'_>) -> Result<Option<Vec<u8>>, AllocError> {
-    match matches.get_str("null-text") {
-        Some(text) => Ok(Some(Vec::from_slice(alloc, text.as_bytes())?)),
-        None => Ok(None),
-    }
 }
 
 // Writes the rows of a table of records.
@@ -163,8 +158,7 @@ pub fn rows(rt: &HostRuntime, matches: &ArgMatches<'_>) -> Result<(), Complaint>
         request,
         places,
         fixed,
-        types: column_types(rt.alloc(), matches.get_strs("column").unwrap_or(&[]))?,
-        null_text: null_text_of(rt.alloc(), matches)?,
+        words: ColumnWords::new(rt.alloc(), matches)?,
         allow_unused: matches.get_flag("allow-unused"),
         path: String::from_str(rt.alloc(), shown_path(path))?,
     };

@@ -39,7 +39,7 @@ pub fn error_form_of(words: &[String]) -> ErrorForm {
     ErrorForm::Text
 }
 
-static OPTIONS: [&str; 26] = [
+static OPTIONS: [&str; 27] = [
     "--literals",
     "--mode",
     "--sql-mode",
@@ -58,6 +58,7 @@ static OPTIONS: [&str; 26] = [
     "--mysql-tsv",
     "--ndjson",
     "--column",
+    "--null-of",
     "--null-text",
     "--transaction",
     "--stream",

@@ -1,9 +1,8 @@
 -- The records of a table, one after another, and their statements.
 use Rattle.std.proofs.Common.{◌≡◌, ◌≢◌, ◌∙◌, ℕ, ◌+◌, ◌-◌, ◌<◌, ◌≤◌, suc, zero, List, [], ◌∷◌, ◌++◌, length, map, min, drop, get_or, inl, inr, refl, ap, sym, subst, append_assoc, append-nil, arith, length-append}
-use Rattle.std.specs.Prelude.{All, Option}
+use Rattle.std.specs.Prelude.{All}
 use Rattle.std.proofs.lemmas.Bool.{cases_lt}
 use Rattle.std.proofs.lemmas.List.{drop_all, drop_at, get_or-map, length-map, map-append}
-use Rattle.std.specs.Borrow.{Bor}
 use Rattle.std.proofs.lemmas.List.Elements.{All-append}
 use Rattle.mysql_records.specs.Faults.{IsFaulty}
 use Rattle.mysql_records.specs.Records.{BeginsWithRecord, IsTable}
@@ -73,16 +72,16 @@ rest_fits format text rows rest h =
 -- ---- the cells of a record
 
 -- one field more
-pub said_next : (null_text : Option (Bor (List ℕ))) (columns : List TableColumn) (fields : List LentField) (i : ℕ) (d : TableColumn) (field : LentField)
+pub said_next : (columns : List TableColumn) (fields : List LentField) (i : ℕ) (d : TableColumn) (field : LentField)
     (cells more : List Cell) → i < length columns → i < length fields → field ≡ get_or fields i field →
-    map cell_said more ≡ map cell_said cells ++ column_said null_text (get_or columns i d) (lent_seen field) →
-    map cell_said cells ++ fields_said null_text (drop i columns) (drop i (lent_fields_seen fields)) ≡ fields_said null_text columns (lent_fields_seen fields) →
-    map cell_said more ++ fields_said null_text (drop (i + 1) columns) (drop (i + 1) (lent_fields_seen fields)) ≡ fields_said null_text columns (lent_fields_seen fields)
-said_next null_text columns fields i d field cells more below within at pushed so_far =
-    ap (λ said. said ++ fields_said null_text (drop (i + 1) columns) (drop (i + 1) (lent_fields_seen fields))) pushed
-    ∙ append_assoc (map cell_said cells) (column_said null_text (get_or columns i d) (lent_seen field)) (fields_said null_text (drop (i + 1) columns) (drop (i + 1) (lent_fields_seen fields)))
-    ∙ ap (λ fs. map cell_said cells ++ fields_said null_text (get_or columns i d ∷ drop (i + 1) columns) fs) (sym seen)
-    ∙ ap (λ cs. map cell_said cells ++ fields_said null_text cs (drop i (lent_fields_seen fields))) (sym (drop_index columns i d below))
+    map cell_said more ≡ map cell_said cells ++ column_said (get_or columns i d) (lent_seen field) →
+    map cell_said cells ++ fields_said (drop i columns) (drop i (lent_fields_seen fields)) ≡ fields_said columns (lent_fields_seen fields) →
+    map cell_said more ++ fields_said (drop (i + 1) columns) (drop (i + 1) (lent_fields_seen fields)) ≡ fields_said columns (lent_fields_seen fields)
+said_next columns fields i d field cells more below within at pushed so_far =
+    ap (λ said. said ++ fields_said (drop (i + 1) columns) (drop (i + 1) (lent_fields_seen fields))) pushed
+    ∙ append_assoc (map cell_said cells) (column_said (get_or columns i d) (lent_seen field)) (fields_said (drop (i + 1) columns) (drop (i + 1) (lent_fields_seen fields)))
+    ∙ ap (λ fs. map cell_said cells ++ fields_said (get_or columns i d ∷ drop (i + 1) columns) fs) (sym seen)
+    ∙ ap (λ cs. map cell_said cells ++ fields_said cs (drop i (lent_fields_seen fields))) (sym (drop_index columns i d below))
     ∙ so_far
   where
     long : i < length (lent_fields_seen fields)
@@ -92,28 +91,28 @@ said_next null_text columns fields i d field cells more below within at pushed s
     seen = drop_index (lent_fields_seen fields) i (lent_seen field) long
         ∙ ap (λ f. f ∷ drop (i + 1) (lent_fields_seen fields)) (get_or-map lent_seen fields i field (lent_seen field) within ∙ ap lent_seen (sym at))
 
-no_fields_said : (null_text : Option (Bor (List ℕ))) (columns : List TableColumn) → fields_said null_text columns [] ≡ []
-no_fields_said null_text [] = refl
-no_fields_said null_text (c ∷ cs) = refl
+no_fields_said : (columns : List TableColumn) → fields_said columns [] ≡ []
+no_fields_said [] = refl
+no_fields_said (c ∷ cs) = refl
 
-all_said : (null_text : Option (Bor (List ℕ))) (columns : List TableColumn) (fields : Fields) (i : ℕ) → min (length columns) (length fields) ≤ i →
-    fields_said null_text (drop i columns) (drop i fields) ≡ []
-all_said null_text columns fields i past =
+all_said : (columns : List TableColumn) (fields : Fields) (i : ℕ) → min (length columns) (length fields) ≤ i →
+    fields_said (drop i columns) (drop i fields) ≡ []
+all_said columns fields i past =
     elim (cases_lt i (length columns)) [
-      | inl many ↦ ap (λ fs. fields_said null_text (drop i columns) fs) (drop_all i fields (omega (arith, past, many))) ∙ no_fields_said null_text (drop i columns)
-      | inr few ↦ ap (λ cs. fields_said null_text cs (drop i fields)) (drop_all i columns few)
+      | inl many ↦ ap (λ fs. fields_said (drop i columns) fs) (drop_all i fields (omega (arith, past, many))) ∙ no_fields_said (drop i columns)
+      | inr few ↦ ap (λ cs. fields_said cs (drop i fields)) (drop_all i columns few)
     ]
 
 -- the cells of all fields, and those that each row has
 pub cells_of_record : (form : TableForm) (fields : List LentField) (i : ℕ) (cells all : List Cell) →
     min (length form.columns.now) (length fields) ≤ i → all ≡ cells ++ form.fixed.now →
-    map cell_said cells ++ fields_said form.null_text (drop i form.columns.now) (drop i (lent_fields_seen fields)) ≡ fields_said form.null_text form.columns.now (lent_fields_seen fields) →
+    map cell_said cells ++ fields_said (drop i form.columns.now) (drop i (lent_fields_seen fields)) ≡ fields_said form.columns.now (lent_fields_seen fields) →
     AreCellsOf form (lent_fields_seen fields) all
 cells_of_record form fields i cells all past are so_far =
     ap (map cell_said) are ∙ map-append cell_said cells form.fixed.now
     ∙ ap (λ said. said ++ map cell_said form.fixed.now)
     (sym (append-nil (map cell_said cells))
-    ∙ ap (λ said. map cell_said cells ++ said) (sym (all_said form.null_text form.columns.now (lent_fields_seen fields) i (omega (arith, past, length-map fields lent_seen))))
+    ∙ ap (λ said. map cell_said cells ++ said) (sym (all_said form.columns.now (lent_fields_seen fields) i (omega (arith, past, length-map fields lent_seen))))
     ∙ so_far)
 
 -- ---- cells that say the same

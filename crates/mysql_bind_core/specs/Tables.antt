@@ -39,30 +39,29 @@ abbrev pub is_null_text : Option (Bor (List ℕ)) → List ℕ → Bool
 is_null_text None bytes = false
 is_null_text (Some text) bytes = bytes_eq text.now bytes
 
--- What a field says for a column of this type: NULL without bytes; its bytes as NULL, if they are
--- the null text; else its bytes as the type.
-abbrev pub field_said : Option (Bor (List ℕ)) → ValueType → Option (List ℕ) → CellSaid
-field_said null_text value_type None = (Null, [])
-field_said null_text value_type (Some bytes) =
-    ((if is_null_text null_text bytes then Null else value_type), bytes)
+-- What a field says for its column: NULL without bytes; its bytes as NULL, if they are the column's
+-- null text; else its bytes as the column's type.
+abbrev pub field_said : TableColumn → Option (List ℕ) → CellSaid
+field_said column None = (Null, [])
+field_said column (Some bytes) =
+    ((if is_null_text column.null_text bytes then Null else column.value_type), bytes)
 
 -- the same, if the column is used
-abbrev pub column_said : Option (Bor (List ℕ)) → TableColumn → Option (List ℕ) → List CellSaid
-column_said null_text column field =
-    if column.used then field_said null_text column.value_type field ∷ [] else []
+abbrev pub column_said : TableColumn → Option (List ℕ) → List CellSaid
+column_said column field = if column.used then field_said column field ∷ [] else []
 
 -- the same of each field for the column of the same number
-abbrev pub fields_said : Option (Bor (List ℕ)) → List TableColumn → Fields → List CellSaid
-fields_said null_text [] fields = []
-fields_said null_text (column ∷ columns) [] = []
-fields_said null_text (column ∷ columns) (field ∷ fields) =
-    column_said null_text column field ++ fields_said null_text columns fields
+abbrev pub fields_said : List TableColumn → Fields → List CellSaid
+fields_said [] fields = []
+fields_said (column ∷ columns) [] = []
+fields_said (column ∷ columns) (field ∷ fields) =
+    column_said column field ++ fields_said columns fields
 
 -- the cells say what the fields of a record do, and behind that what each row has
 abbrev pub AreCellsOf : TableForm → Fields → List Cell → Type 0
 AreCellsOf form fields cells =
     map cell_said cells
-    ≡ fields_said form.null_text form.columns.now fields ++ map cell_said form.fixed.now
+    ≡ fields_said form.columns.now fields ++ map cell_said form.fixed.now
 
 -- the text is written for the cells of a record
 abbrev pub IsRecordText : TableQuery → TableForm → Fields → List ℕ → Type 0

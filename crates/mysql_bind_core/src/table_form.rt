@@ -7,9 +7,11 @@ use std::alloc::AllocError;
 
 /// A column of a table.
 #[derive(Debug, Clone, Copy)]
-pub struct TableColumn {
+pub struct TableColumn<'a> {
     /// How the bytes of its fields are taken.
     pub value_type: ValueType,
+    /// The bytes of a field of it that is NULL, if some mean that.
+    pub null_text: Option<&'a [u8]>,
     /// Whether its fields become cells.
     pub used: bool,
 }
@@ -20,9 +22,7 @@ pub struct TableForm<'a> {
     /// The format of the records.
     pub format: RecordFormat,
     /// The columns: a record has as many fields.
-    pub columns: &'a [TableColumn],
-    /// The bytes of a field that is NULL, if some mean that.
-    pub null_text: Option<&'a [u8]>,
+    pub columns: &'a [TableColumn<'a>],
     /// The cells that are the same in each row, behind those of its record.
     pub fixed: &'a [Cell<'a>],
 }

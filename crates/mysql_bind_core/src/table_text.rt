@@ -118,7 +118,7 @@ pub fn record_cells<'f>(
     let most = form.columns.len().saturating_add(form.fixed.len());
     let mut cells = Vec::with_capacity(alloc, most)?;
     for i in 0..form.columns.len().min(fields.len()) {
-        push_cell(&mut cells, form.null_text, form.columns[i], &fields[i])?;
+        push_cell(&mut cells, form.columns[i], &fields[i])?;
     }
     cells.extend_from_slice(form.fixed)?;
     Ok(cells)
@@ -127,26 +127,21 @@ pub fn record_cells<'f>(
 // Adds the cell of a field to those of its record, if its column is used.
 fn push_cell<'f>(
     cells: &mut Vec<Cell<'f>>,
-    null_text: Option<&[u8]>,
-    column: TableColumn,
+    column: TableColumn<'_>,
     field: &'f LentField<'_>,
 ) -> Result<(), AllocError>
     ensures { OnOk result (map cell_said cells.new.items ≡ map cell_said cells.old.items
-        ++ column_said null_text.entry column (lent_seen field.now)) }
+        ++ column_said column.entry (lent_seen field.now)) }
 {
     if column.used {
-        cells.push(cell_of(null_text, column.value_type, field))?;
+        cells.push(cell_of(column, field))?;
     }
     Ok(())
 }
 
-// What a field is for a column of this type.
-fn cell_of<'f>(
-    null_text: Option<&[u8]>,
-    value_type: ValueType,
-    field: &'f LentField<'_>,
-) -> Cell<'f>
-    ensures { cell_said result ≡ field_said null_text.entry value_type (lent_seen field.now) }
+// What a field is for its column.
+fn cell_of<'f>(column: TableColumn<'_>, field: &'f LentField<'_>) -> Cell<'f>
+    ensures { cell_said result ≡ field_said column.entry (lent_seen field.now) }
 {
     let Some(bytes) = field.bytes() else {
         return Cell {
@@ -154,9 +149,9 @@ fn cell_of<'f>(
             bytes: b"",
         };
     };
-    let value_type = match null_text {
+    let value_type = match column.null_text {
         Some(text) if text == bytes => ValueType::Null,
-        _ => value_type,
+        _ => column.value_type,
     };
     Cell { value_type, bytes }
 }

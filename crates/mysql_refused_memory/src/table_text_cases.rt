@@ -19,17 +19,20 @@ const QUERY: &[u8] = b"(:a, :b, :c)";
 /// The columns that are used, and what is the same in each row.
 const NAMES: &[&[u8]] = &[b"a", b"c", b"b"];
 
-const COLUMNS: &[TableColumn] = &[
+const COLUMNS: &[TableColumn<'static>] = &[
     TableColumn {
         value_type: Int,
+        null_text: Some(b"-"),
         used: true,
     },
     TableColumn {
         value_type: Int,
+        null_text: None,
         used: false,
     },
     TableColumn {
         value_type: Text,
+        null_text: Some(b"="),
         used: true,
     },
 ];
@@ -56,7 +59,7 @@ const TABLES: &[(&str, TableRow)] = cases! {
         b"(1, _utf8mb4'z', _utf8mb4'y')\n;\n(2, _utf8mb4'z', _utf8mb4'it''s')\n;\n", Ok(0),
         Memory::Asked;
     "append_table of NULL and the null text" =>
-        MysqlTsv, b"\\N\t-\t-\n", usize::MAX, b"(NULL, _utf8mb4'z', NULL)\n;\n", Ok(0),
+        MysqlTsv, b"\\N\t-\t=\n", usize::MAX, b"(NULL, _utf8mb4'z', NULL)\n;\n", Ok(0),
         Memory::Asked;
     "append_table of fewer records than a text has" =>
         Csv, b"1,x,y\n2,x,y\n", 1, b"(1, _utf8mb4'z', _utf8mb4'y')\n;\n", Ok(6),
@@ -69,8 +72,8 @@ const TABLES: &[(&str, TableRow)] = cases! {
         Csv, b"1,x,y\n2,x\n3,x,y", usize::MAX, b"(1, _utf8mb4'z', _utf8mb4'y')\n;\n",
         Err("Length { at: 6, fields: 2 }"), Memory::Asked;
     "append_table of a refused row behind a record" =>
-        Csv, b"1,x,y\n-,x,y\n?,x,y\n2,x", usize::MAX,
-        b"(1, _utf8mb4'z', _utf8mb4'y')\n;\n(NULL, _utf8mb4'z', _utf8mb4'y')\n;\n",
+        Csv, b"1,x,y\n-,x,-\n?,x,y\n2,x", usize::MAX,
+        b"(1, _utf8mb4'z', _utf8mb4'y')\n;\n(NULL, _utf8mb4'z', _utf8mb4'-')\n;\n",
         Err("Row { at: 12, failure: NoValue }"), Memory::Asked;
 };
 
@@ -82,7 +85,6 @@ fn appended(alloc: Global, (format, text, most, statements, wanted, memory): Tab
     let form = TableForm {
         format,
         columns: COLUMNS,
-        null_text: Some(b"-"),
         fixed: FIXED,
     };
     let query = match MatchedQuery::with_columns(alloc, QUERY, NAMES, STEADY) {

@@ -7,5 +7,5 @@ use Rattle.mysql_bind_core.proofs.table_text.record_cells.Given as goal
 abbrev pub invariant-loop-i : goal.invariant-loop-i
 invariant-loop-i l =
     map cell_said l.cells.items
-    ++ fields_said l.form.null_text (drop l.i l.form.columns.now) (drop l.i (lent_fields_seen l.fields))
-    ≡ fields_said l.form.null_text l.form.columns.now (lent_fields_seen l.fields)
+    ++ fields_said (drop l.i l.form.columns.now) (drop l.i (lent_fields_seen l.fields))
+    ≡ fields_said l.form.columns.now (lent_fields_seen l.fields)
