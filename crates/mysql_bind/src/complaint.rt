@@ -132,6 +132,20 @@ pub fn bad_row(alloc: Global, path: &str, line: u64, what: &str) -> Complaint {
 }
 
 impl Complaint {
+    /// The faults of both, those of this one first; one that isn't of faults comes alone.
+    pub fn before(self, later: Complaint) -> Result<Complaint, AllocError> {
+        match (self, later) {
+            (Complaint::Refused(mut faults), Complaint::Refused(found)) => {
+                for fault in found {
+                    add_fault(&mut faults, fault.place, fault.what)?;
+                }
+                Ok(Complaint::Refused(faults))
+            }
+            (Complaint::Refused(_), later) => Ok(later),
+            (first, _) => Ok(first),
+        }
+    }
+
     /// The exit status.
     pub fn status(&self) -> u8 {
         match self {

@@ -207,8 +207,8 @@ struct Bound<'b> {
     form: TableForm<'b>,
 }
 
-// What is said of the row of the record that begins at an index, and is refused for this. Without
-// --stream, a later record that isn't one or has another number of fields is told in its place.
+// What is said of the row of the record that begins at an index, and is refused for this. The first
+// later record that isn't one, or has another number of fields, is told behind it.
 fn row_refused(
     script: &mut TableScript<'_, '_>,
     rt: &HostRuntime,
@@ -231,10 +231,11 @@ fn row_refused(
     let complaint = complaint_of_row(rt.alloc(), script.wanted, row, failure)?;
     if script.stream {
         script.begin(rt)?;
-    } else {
-        table.check_records(rt.alloc(), more, bound.form.columns.len())?;
     }
-    Ok(complaint)
+    match table.check_records(rt.alloc(), more, bound.form.columns.len()) {
+        Ok(()) => Ok(complaint),
+        Err(later) => Ok(complaint.before(later)?),
+    }
 }
 
 // What is said of a refusal in a rest of the table.

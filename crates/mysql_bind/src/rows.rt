@@ -118,12 +118,11 @@ fn write_objects(
     };
     match add_objects(&mut script, rt, Decimals::of(matches), bytes) {
         Ok(()) => script.finish(rt, matches.get_str("output")),
-        Err(complaint) => {
-            if script.stream {
-                script.write_streamed(rt)?;
-            }
+        Err(complaint) if script.stream => {
+            script.write_streamed(rt)?;
             Err(complaint)
         }
+        Err(complaint) => Err(script.refused_behind(rt.alloc(), complaint)),
     }
 }
 

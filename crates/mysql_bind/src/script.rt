@@ -124,6 +124,25 @@ impl Script<'_, '_> {
         }
     }
 
+    /// What is said of a row that can't be read, behind those so far: one of these that is refused
+    /// is told before it.
+    pub fn refused_behind(&self, alloc: Global, complaint: Complaint) -> Complaint {
+        let bound = script_of(
+            alloc,
+            self.wanted.query.bytes.as_slice(),
+            self.rows.as_slice(),
+            self.wanted.request,
+            self.transaction,
+        );
+        match bound {
+            Ok(_) => complaint,
+            Err(failure) => match self.refused(alloc, failure).before(complaint) {
+                Ok(both) => both,
+                Err(_) => Complaint::Memory,
+            },
+        }
+    }
+
     // A refusal, as a complaint; a complaint out of memory is that.
     fn refused(&self, alloc: Global, failure: RowsFailure) -> Complaint {
         let complaint = match failure {
