@@ -1,5 +1,6 @@
 //! All that is wrong with a query, of the kind for which it is refused.
 use crate::complaint::{Complaint, Fault, add_fault};
+use crate::construct_texts::{ConstructTexts, is_taken_after};
 use crate::query_file::{
     JOINED, MARK, PlacesInOrder, QueryFile, UNSTEADY, complaint_of, marks_of, places_of,
 };
@@ -137,10 +138,11 @@ fn add_marks(
     Ok(())
 }
 
-// What is said of a construct. Of a text in `"` also what to write instead of it, if that is short,
-// and none stands directly beside it: `""` between two is a quote.
+// What is said of the next construct. Of a text in `"` also what to write instead of it, if that is
+// short, and none stands directly beside it: `""` between two is a quote.
 fn construct_told(
     alloc: Global,
+    texts: &mut ConstructTexts,
     text: &[u8],
     found: Unportable,
     mode: bool,
@@ -155,16 +157,7 @@ fn construct_told(
             return format!(in alloc; "{}: {}", found.construct, written);
         }
     }
-    format!(in alloc; "{}", found.construct)
-}
-
-// Whether a client takes this word for its own after a text without a construct.
-fn is_taken_after(alloc: Global, text: &[u8], word: &[u8], mode: bool) -> Result<bool, AllocError> {
-    let mut whole = Vec::with_capacity(alloc, text.len().saturating_add(word.len()))?;
-    whole.extend_from_slice(text)?;
-    whole.extend_from_slice(word)?;
-    let found = first_unportable_in_client(whole.as_slice(), mode);
-    Ok(matches!(found, Some(found) if found.at == text.len()))
+    texts.next(alloc, text, found)
 }
 
 // Two bytes behind which a client finds what it finds behind a text without a construct: that
@@ -222,6 +215,7 @@ fn add_constructs(
     let lowered = lowered_query(alloc, query.bytes.as_slice(), mode)?;
     text.extend_from_slice(lowered.as_slice())?;
     let mut from = 0usize;
+    let mut texts = ConstructTexts::new(mode);
     // Each construct has a byte.
     for _ in 0..query.bytes.len() {
         let rest = &text.as_slice()[from.min(text.len())..];
@@ -230,7 +224,8 @@ fn add_constructs(
         };
         let at = from.saturating_add(found.at);
         let place = places.place_of(alloc, at.saturating_sub(2))?;
-        add_fault(faults, place, construct_told(alloc, rest, found, mode)?)?;
+        let what = construct_told(alloc, &mut texts, rest, found, mode)?;
+        add_fault(faults, place, what)?;
         from = passed(alloc, text.as_mut_slice(), from, at, mode)?;
     }
     Ok(())

@@ -9,6 +9,7 @@ mod column_words;
 mod columns;
 mod commands;
 mod complaint;
+mod construct_texts;
 mod help;
 mod interface;
 mod json_members;

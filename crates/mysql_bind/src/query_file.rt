@@ -1,6 +1,7 @@
 //! A query, the file that it was read from, and what is said of a refusal.
 use crate::changed_text::changed_text;
 use crate::complaint::{Complaint, Place, one_fault};
+use crate::construct_texts::ConstructTexts;
 use crate::sources::{Sources, shown_path};
 use crate::values::{Values, wrong_values};
 use mysql_bind_core::{Failure, Request, line_and_column};
@@ -264,7 +265,8 @@ pub fn complaint_of(
         ),
         Failure::Unsteady { at } => refused_at(alloc, query, at, UNSTEADY),
         Failure::Unportable(found) => {
-            let what = format!(in alloc; "{}", found.construct)?;
+            let text = query.bytes.as_slice();
+            let what = ConstructTexts::new(mode).next(alloc, text, found)?;
             refused_at(alloc, query, found.at, what.as_str())
         }
         Failure::Marks => mark_refused(alloc, query, mode),
