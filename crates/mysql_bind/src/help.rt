@@ -50,6 +50,8 @@ with `;` on a line of its own. The values above are the same in each row:
                             the last: a script that is cut off changes nothing
       --stream              write statements before all rows are bound: a row
                             that is refused leaves those of the rows before it
+      --progress | --no-progress  tell how far the rows are, on standard error,
+                            or don't; without these it is told on a terminal
 
 Literals:
       --literals=steady      no sql_mode and no character set reads them otherwise

@@ -68,7 +68,9 @@ fn rows<'a>(alloc: Global) -> Result<Command<'a>, AllocError> {
         .arg(many(alloc, "null-of"))?
         .arg(one(alloc, "null-text"))?
         .arg(flag(alloc, "transaction"))?
-        .arg(flag(alloc, "stream"))
+        .arg(flag(alloc, "stream"))?
+        .arg(flag(alloc, "progress"))?
+        .arg(flag(alloc, "no-progress"))
 }
 
 // The words of `names`.

@@ -3,7 +3,7 @@ use crate::columns::{Wanted, add_fixed};
 use crate::complaint::{Complaint, Fault, Place, add_fault, bad_row};
 use crate::json_members::{Decimals, add_members};
 use crate::matching::{add_unused, note_values};
-use crate::script::Script;
+use crate::script::{STREAMED_ROWS, Script};
 use crate::sources::unmarked;
 use crate::told::SourceName;
 use crate::values::Values;
@@ -149,6 +149,7 @@ pub fn add_objects(
     let members = Members::new(rt.alloc(), script.wanted, decimals)?;
     let mut rest = unmarked(bytes);
     let mut line = 1u64;
+    let mut added = 0usize;
     // Each line has a byte.
     for _ in 0..bytes.len() {
         if rest.is_empty() {
@@ -161,9 +162,15 @@ pub fn add_objects(
         if !text.iter().all(|byte| is_white_space(*byte)) {
             let assignments = object_assignments(rt.alloc(), script.wanted, &members, line, text)?;
             script.add(rt, assignments, line)?;
+            added = added.saturating_add(1);
         }
         line = line.saturating_add(1);
         rest = after;
+        if added >= STREAMED_ROWS || rest.is_empty() {
+            let end = bytes.len().saturating_sub(rest.len());
+            script.progress.add(rt, added, end);
+            added = 0;
+        }
     }
     Ok(())
 }

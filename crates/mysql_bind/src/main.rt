@@ -16,6 +16,7 @@ mod json_members;
 mod json_rows;
 mod matching;
 mod output;
+mod progress;
 mod query_file;
 mod records;
 mod refused_row;

@@ -1,6 +1,7 @@
 //! The rows of CSV and TSV, and of what MySQL servers and clients write.
 use crate::columns::{Column, Wanted, columns_of};
 use crate::complaint::{Complaint, Place, bad_file, one_fault};
+use crate::progress::ROWS_AT_ONCE;
 use crate::query_file::complaint_of;
 use crate::refused_row::{RowAt, complaint_of_row};
 use crate::script::STREAMED_ROWS;
@@ -119,6 +120,22 @@ impl<'t> Table<'t> {
             }
             Err(RecordError::Memory(_)) => Err(Complaint::Memory),
         }
+    }
+
+    // The number of records at the front of a rest of the bytes that have statements.
+    fn count_records(self, alloc: Global, rest: &'t [u8]) -> Result<usize, Complaint> {
+        let mut fields = Vec::new(alloc);
+        let mut rest = rest;
+        let mut count = 0usize;
+        // Each record has a byte.
+        for _ in 0..rest.len() {
+            let Some(more) = self.read(alloc, rest, &mut fields)? else {
+                break;
+            };
+            count = count.saturating_add(1);
+            rest = more;
+        }
+        Ok(count)
     }
 
     // Refuses a rest of the bytes that isn't records, or has one with another number of fields than
@@ -262,6 +279,37 @@ fn table_refused(
     }
 }
 
+// Notes that the records of a rest of the table have rows, up to a later rest: as many as are added
+// at once, except at the end, where they are counted.
+fn note_rows(
+    script: &mut TableScript<'_, '_>,
+    rt: &HostRuntime,
+    table: Table<'_>,
+    rest: &[u8],
+    later: &[u8],
+) -> Result<(), Complaint> {
+    if script.progress.is_told() {
+        let rows = if later.is_empty() {
+            table.count_records(rt.alloc(), rest)?
+        } else {
+            rows_at_once(script)
+        };
+        script.progress.add(rt, rows, table.index_of(later));
+    }
+    Ok(())
+}
+
+// How many rows are added at once.
+fn rows_at_once(script: &TableScript<'_, '_>) -> usize {
+    if script.stream {
+        STREAMED_ROWS
+    } else if script.progress.is_told() {
+        ROWS_AT_ONCE
+    } else {
+        usize::MAX
+    }
+}
+
 // Adds a row for each record of a rest of the table.
 fn add_rows(
     script: &mut TableScript<'_, '_>,
@@ -269,17 +317,16 @@ fn add_rows(
     bound: &Bound<'_>,
     rest: &[u8],
 ) -> Result<(), Complaint> {
-    let most = if script.stream {
-        STREAMED_ROWS
-    } else {
-        usize::MAX
-    };
+    let most = rows_at_once(script);
     let mut rest = rest;
     // What is added at once has a byte, except at the end.
     for _ in 0..bound.table.bytes.len() {
         let text = &mut script.text;
         match append_table(rt.alloc(), &bound.query, &bound.form, rest, most, text) {
-            Ok(more) => rest = more,
+            Ok(more) => {
+                note_rows(script, rt, bound.table, rest, more)?;
+                rest = more;
+            }
             Err(refusal) => return Err(table_refused(script, rt, bound, rest, refusal)?),
         }
         if rest.is_empty() {

@@ -5,11 +5,12 @@ use crate::complaint::{Complaint, bad_word};
 use crate::json_members::Decimals;
 use crate::json_rows::add_objects;
 use crate::matching::{name_places, place_numbers};
+use crate::progress::Progress;
 use crate::query_file::{complaint_of, read_query};
 use crate::records::add_records;
 use crate::requests::request_of;
 use crate::script::Script;
-use crate::sources::{Sources, shown_path};
+use crate::sources::{Sources, shown_path, unmarked};
 use crate::table_script::TableScript;
 use crate::values::{Values, values_of};
 use clap::ArgMatches;
@@ -63,6 +64,15 @@ fn check_options(alloc: Global, matches: &ArgMatches<'_>, form: Form) -> Result<
             "--column, --null-of and --null-text are not for --ndjson: JSON has types and null",
         ));
     }
+    if matches.get_flag("progress") && matches.get_flag("no-progress") {
+        return Err(bad_word(alloc, "give one of --progress and --no-progress"));
+    }
+    if matches.get_flag("progress") && matches.get_str("errors") == Some("json") {
+        return Err(bad_word(
+            alloc,
+            "--progress isn't for --errors=json: its lines are no JSON",
+        ));
+    }
     if matches.get_flag("stream") && matches.get_str("output").is_some() {
         return Err(bad_word(
             alloc,
@@ -85,12 +95,15 @@ fn write_records(
         transaction: matches.get_flag("transaction"),
         stream: matches.get_flag("stream"),
         begun: false,
+        progress: Progress::new(rt, matches, unmarked(bytes).len()),
         text: Vec::new(rt.alloc()),
     };
     if script.transaction && !script.stream {
         script.text.extend_from_slice(START)?;
     }
-    match add_records(&mut script, rt, format, bytes) {
+    let added = add_records(&mut script, rt, format, bytes);
+    script.progress.end(rt);
+    match added {
         Ok(()) => script.finish(rt, matches.get_str("output")),
         Err(complaint) => {
             if script.stream {
@@ -113,10 +126,13 @@ fn write_objects(
         transaction: matches.get_flag("transaction"),
         stream: matches.get_flag("stream"),
         begun: false,
+        progress: Progress::new(rt, matches, unmarked(bytes).len()),
         rows: Vec::new(rt.alloc()),
         lines: Vec::new(rt.alloc()),
     };
-    match add_objects(&mut script, rt, Decimals::of(matches), bytes) {
+    let added = add_objects(&mut script, rt, Decimals::of(matches), bytes);
+    script.progress.end(rt);
+    match added {
         Ok(()) => script.finish(rt, matches.get_str("output")),
         Err(complaint) if script.stream => {
             script.write_streamed(rt)?;

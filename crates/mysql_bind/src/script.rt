@@ -2,6 +2,7 @@
 use crate::columns::Wanted;
 use crate::complaint::Complaint;
 use crate::output::write_text;
+use crate::progress::Progress;
 use crate::query_file::complaint_of;
 use crate::refused_row::{RowAt, complaint_of_row};
 use crate::values::Values;
@@ -24,6 +25,8 @@ pub struct Script<'a, 'w> {
     pub stream: bool,
     /// Whether a row was written.
     pub begun: bool,
+    /// How far the rows are.
+    pub progress: Progress,
     /// The rows that aren't written yet.
     pub rows: Vec<Row>,
     /// The line at which each begins.

@@ -2,6 +2,7 @@
 use crate::columns::Wanted;
 use crate::complaint::Complaint;
 use crate::output::write_text;
+use crate::progress::Progress;
 use mysql_bind_core::{COMMIT, START};
 
 /// The statements of the rows so far.
@@ -15,6 +16,8 @@ pub struct TableScript<'a, 'w> {
     pub stream: bool,
     /// Whether what begins the script was written.
     pub begun: bool,
+    /// How far the rows are.
+    pub progress: Progress,
     /// What isn't written yet: with `stream` the statements of rows, else the script so far.
     pub text: Vec<u8>,
 }

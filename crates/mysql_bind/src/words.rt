@@ -39,7 +39,7 @@ pub fn error_form_of(words: &[String]) -> ErrorForm {
     ErrorForm::Text
 }
 
-static OPTIONS: [&str; 27] = [
+static OPTIONS: [&str; 29] = [
     "--literals",
     "--mode",
     "--sql-mode",
@@ -62,6 +62,8 @@ static OPTIONS: [&str; 27] = [
     "--null-text",
     "--transaction",
     "--stream",
+    "--progress",
+    "--no-progress",
     "--allow-unused",
     "--output",
     "--zero",
@@ -70,10 +72,12 @@ static OPTIONS: [&str; 27] = [
 ];
 
 // The options that are given no value.
-static FLAGS: [&str; 7] = [
+static FLAGS: [&str; 9] = [
     "--allow-unportable",
     "--transaction",
     "--stream",
+    "--progress",
+    "--no-progress",
     "--allow-unused",
     "--zero",
     "--help",
