@@ -44,7 +44,7 @@ pub data Content : Type 0 where
   name_content : List ℕ → Content
   -- items
   list_content : List ItemContent → Content
-  -- rows, a qualified name or a keyword, which no type gives
+  -- rows, a qualified name, a keyword, columns or assignments, which no type gives
   other_content : Content
 
 -- what an item says
@@ -63,6 +63,8 @@ said (one.Identifier name) = name_content name.items
 said (one.Rows rows) = other_content
 said (one.Qualified names) = other_content
 said (one.Keyword word) = other_content
+said (one.Identifiers columns) = other_content
+said (one.Assignments assignments) = other_content
 
 -- ---- what bytes say
 

@@ -1,9 +1,11 @@
 -- What a fragment says, without where its bytes and items stand in memory.
 use Rattle.std.specs.Prelude.{ℕ, List, map}
+use Rattle.std.specs.Global.{Vec}
 use Rattle.mysql_value_core.specs.declared.value.Value.{Value}
 use Rattle.std.specs.Float.Ieee.{Float}
 use Rattle.mysql_float_literal.specs.DoubleText.{double_value}
 use Rattle.mysql_params_core.specs.Names.{names_of}
+use Rattle.mysql_fragments.specs.declared.fragment.ColumnAssignment.{ColumnAssignment}
 use Rattle.mysql_fragments.specs.declared.fragment.Item.{Item}
 use Rattle.mysql_fragments.specs.declared.fragment.Item.TheVariants as item
 use Rattle.mysql_fragments.specs.declared.fragment.Fragment.{Fragment}
@@ -17,6 +19,10 @@ pub data ItemContent : Type 0 where
   number_item : List ℕ → ItemContent
   -- a finite double
   double_item : Float → ItemContent
+
+-- what an assignment says: the names of its column, and its item
+abbrev pub AssignmentContent : Type 0
+AssignmentContent = List (List ℕ) × ItemContent
 
 -- what a fragment says
 pub data FragmentContent : Type 0 where
@@ -36,6 +42,10 @@ pub data FragmentContent : Type 0 where
   qualified : List (List ℕ) → FragmentContent
   -- the text of a keyword
   keyword : List ℕ → FragmentContent
+  -- columns, each of names
+  identifiers : List (List (List ℕ)) → FragmentContent
+  -- assignments
+  assignments : List AssignmentContent → FragmentContent
 
 -- what this item says
 abbrev pub item_content : Item → ItemContent
@@ -47,6 +57,19 @@ item_content (item.Double said) = double_item (double_value said)
 abbrev pub items_content : List Item → List ItemContent
 items_content items = map item_content items
 
+-- the names of these columns
+abbrev pub columns_content : List (Vec (Vec ℕ)) → List (List (List ℕ))
+columns_content columns = map (λ names. names_of names.items) columns
+
+-- what this assignment says
+abbrev pub assignment_content : ColumnAssignment → AssignmentContent
+assignment_content assignment =
+    (names_of assignment.column.items, item_content assignment.item)
+
+-- what these assignments say
+abbrev pub assignments_content : List ColumnAssignment → List AssignmentContent
+assignments_content said = map assignment_content said
+
 -- what this fragment says
 abbrev pub content_of : Fragment → FragmentContent
 content_of (one.Value said) = value said
@@ -57,3 +80,5 @@ content_of (one.Rows items) = rows (map (λ row. items_content row.items) items.
 content_of (one.Identifier name) = identifier name.items
 content_of (one.Qualified names) = qualified (names_of names.items)
 content_of (one.Keyword word) = keyword word.word.items
+content_of (one.Identifiers columns) = identifiers (columns_content columns.items)
+content_of (one.Assignments said) = assignments (assignments_content said.items)

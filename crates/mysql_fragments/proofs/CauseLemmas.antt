@@ -18,7 +18,7 @@ use Rattle.mysql_binding.specs.Survey.{IsSurvey}
 use Rattle.mysql_binding.specs.declared.binding.survey.Survey.{Survey}
 use Rattle.mysql_binding.proofs.CauseLemmas.{has_both-not, or_none, map_none}
 use Rattle.mysql_fragments.specs.FragmentErrors.{Cause, mixed_query, refused_fragments, mark_count, not_alone, float_value, faulty, mixed_cause, count_cause, not_alone_cause, is_float_item, has_float, first_float_from, literal_float, float_cause, first_fault_from, fault_cause, later_cause, cause_of_places, first_cause}
-use Rattle.mysql_fragments.specs.FragmentText.{item_values, fragment_values, all_values}
+use Rattle.mysql_fragments.specs.FragmentText.{assignment_values, item_values, fragment_values, all_values}
 use Rattle.mysql_fragments.specs.GivenFragments.{FragmentMap, GivenFragments, PlaceRefusal, named, positional, fragments_at, fragments_for, with_first}
 use Rattle.mysql_fragments.specs.declared.fragment.Item.{Item}
 use Rattle.mysql_fragments.specs.declared.fragment.Item.TheVariants as item
@@ -207,6 +207,9 @@ fragment_no_float (one.Double double) h = refl
 fragment_no_float (one.Identifier name) h = refl
 fragment_no_float (one.Qualified names) h = refl
 fragment_no_float (one.Keyword keyword) h = refl
+fragment_no_float (one.Identifiers columns) h = refl
+fragment_no_float (one.Assignments assignments) h =
+    any_flat assignment_values (λ assignment. is_float_item assignment.item) (λ assignment. item_no_float assignment.item) assignments.items h
 
 pub if_none : {A : Type 0} (b : Bool) (x : A) (y : Option A) → (if b then Some x else y) ≡ None → (b ≡ false) × (y ≡ None)
 if_none true x y e = cc

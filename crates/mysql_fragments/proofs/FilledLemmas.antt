@@ -35,18 +35,19 @@ use Rattle.mysql_binding.proofs.ValueLiteralLemmas.{none_step, has_literal}
 use Rattle.mysql_fragments.specs.Expanded.{IsBoundFragments, IsExpanded}
 use Rattle.mysql_fragments.specs.FilledText.{ArePlaced, IsFilledQuery}
 use Rattle.mysql_fragments.specs.FragmentErrors.{first_fault_from}
-use Rattle.mysql_fragments.specs.FragmentFaults.{fault_of, item_fault, items_fault, list_fault, row_fault, rows_fault, rows_fault_from}
-use Rattle.mysql_fragments.specs.FragmentShape.{IsFragment}
-use Rattle.mysql_fragments.specs.FragmentText.{all_values, filled_item, filled_items, filled_row, filled_text, fragment_text, fragment_values, item_text, item_values, items_text, joined, row_text}
+use Rattle.mysql_fragments.specs.FragmentFaults.{assignment_fault, assignments_fault, assignments_fault_from, fault_of, item_fault, items_fault, list_fault, names_fault, number_after, row_fault, rows_fault, rows_fault_from}
+use Rattle.mysql_fragments.specs.FragmentShape.{IsFragment, IsIdentifier, identifier_fragment}
+use Rattle.mysql_fragments.specs.FragmentText.{all_values, assignment_text, assignment_values, filled_assignment, filled_assignments, filled_item, filled_items, filled_row, filled_text, fragment_text, fragment_values, item_text, item_values, items_text, joined, mark, row_text}
 use Rattle.mysql_fragments.specs.GivenFragments.{GivenFragments}
+use Rattle.mysql_fragments.specs.declared.fragment.ColumnAssignment.{ColumnAssignment}
 use Rattle.mysql_fragments.specs.declared.fragment.Item.{Item}
 use Rattle.mysql_fragments.specs.declared.fragment.Item.TheVariants as item
 use Rattle.mysql_fragments.specs.declared.fragment.Fragment.{Fragment}
 use Rattle.mysql_fragments.specs.declared.fragment.Fragment.TheVariants as one
 use Rattle.mysql_fragments.proofs.ExpandedLemmas.{expanded_parts, expanded_nameless, expanded_marks, is_expanded, no_cause_expanded}
-use Rattle.mysql_fragments.proofs.FragmentLemmas.{comma_then, fragment_list_of, in_brackets, list_list, row_list}
+use Rattle.mysql_fragments.proofs.FragmentLemmas.{assignment_list, comma_then, equals_then, fragment_list_of, in_brackets, list_list, row_list}
 use Rattle.mysql_fragments.proofs.FragmentListLemmas.{IsFragmentList, mark_list}
-use Rattle.mysql_fragments.proofs.ShapeLemmas.{fragment_shape, if_row, item_shape, number_shape}
+use Rattle.mysql_fragments.proofs.ShapeLemmas.{fragment_shape, if_row, item_shape, names_shape, number_shape}
 use Rattle.mysql_float_literal.specs.DoubleText.{double_text}
 use Rattle.mysql_fragments.proofs.CauseLemmas.{no_first_float}
 use Rattle.mysql_fragments.proofs.TextLemmas.{flat_map_more}
@@ -78,6 +79,8 @@ data Fills (mode : Bool) (write : Value → List ℕ) : List ℕ → List Value 
       Fills mode write b us y → Fills mode write (a ++ (codes ", " ++ b)) (vs ++ us) (x ++ (codes ", " ++ y))
   fills_row : (a : List ℕ) (vs : List Value) (x : List ℕ) → Fills mode write a vs x →
       Fills mode write (codes "(" ++ (a ++ codes ")")) vs (codes "(" ++ (x ++ codes ")"))
+  fills_assignment : (column a : List ℕ) (vs : List Value) (x : List ℕ) → IsIdentifier column → Fills mode write a vs x →
+      Fills mode write (column ++ (codes " = " ++ a)) vs (column ++ (codes " = " ++ x))
 
 module _ (mode : Bool) (write : Value → List ℕ) where
   -- its tokens, and the texts in place of their marks
@@ -108,6 +111,15 @@ module _ (mode : Bool) (write : Value → List ℕ) where
             ap (bound (f.0 ++ close)) (sym (append-nil (map write vs)))
             ∙ (bound-append f.0 close (map write vs) [] many ∙ ap (λ z. z ++ codes ")") f.2)
             ),
+      )
+  filled_list (fills_assignment column a vs x c p) =
+      let front = fragment_list_of mode (identifier_fragment column c) in
+      let f = filled_list p in
+      let none : place_count front.0 ≡ 0 = list_places mode 0 column front.0 front.1 in (
+        front.0 ++ equals_then f.0,
+        assignment_list mode (length vs) column a front.0 f.0 front.1 f.1,
+        bound-append front.0 (equals_then f.0) [] (map write vs) none
+            ∙ (ap (λ z. z ++ bound (equals_then f.0) (map write vs)) (bound_none front.0 none ∙ front.1.list_text) ∙ ap (λ z. column ++ (codes " = " ++ z)) f.2),
       )
 
   -- ---- fragments without a fault
@@ -162,6 +174,20 @@ module _ (mode : Bool) (write : Value → List ℕ) where
       let p = or_none (row_fault width row items.items) (rows_fault_from width (row + 1) rows) h in
       (row_fills width row items.items p.0, all_rows_fill width (row + 1) rows p.1)
 
+  assignment_fills : (part index : ℕ) (x : ColumnAssignment) → assignment_fault part index x ≡ None →
+      Fills mode write (assignment_text x) (assignment_values x) (filled_assignment write x)
+  assignment_fills part index x h =
+      let p = or_none (names_fault part x.column.items) (item_fault 0 index x.item) h in
+      fills_assignment _ _ _ _ (names_shape part x.column.items p.0) (item_fills 0 index x.item p.1)
+
+  all_assignments_fill : (part index : ℕ) (xs : List ColumnAssignment) → assignments_fault_from part index xs ≡ None →
+      AllFill assignment_text assignment_values (filled_assignment write) xs
+  unfolding AllFill
+  all_assignments_fill part index [] h = tt
+  all_assignments_fill part index (x ∷ xs) h =
+      let p = or_none (assignment_fault part index x) (assignments_fault_from (number_after part (length x.column.items)) (index + 1) xs) h in
+      (assignment_fills part index x p.0, all_assignments_fill (number_after part (length x.column.items)) (index + 1) xs p.1)
+
   fragment_fills : (fragment : Fragment) → fault_of fragment ≡ None →
       Fills mode write (fragment_text fragment) (fragment_values fragment) (filled_text write fragment)
   fragment_fills (one.Value value) h = fills_mark value
@@ -181,6 +207,13 @@ module _ (mode : Bool) (write : Value → List ℕ) where
   fragment_fills (one.Identifier name) h = fills_plain _ (fragment_shape mode (one.Identifier name) h)
   fragment_fills (one.Qualified names) h = fills_plain _ (fragment_shape mode (one.Qualified names) h)
   fragment_fills (one.Keyword keyword) h = fills_plain _ (fragment_shape mode (one.Keyword keyword) h)
+  fragment_fills (one.Identifiers columns) h = fills_plain _ (fragment_shape mode (one.Identifiers columns) h)
+  fragment_fills (one.Assignments assignments) h = go assignments.items h
+    where
+      go : (xs : List ColumnAssignment) → assignments_fault xs ≡ None →
+          Fills mode write (filled_assignments mark xs) (flat_map assignment_values xs) (filled_assignments write xs)
+      go [] h = cc
+      go (x ∷ xs) h = joined_fills assignment_text assignment_values (filled_assignment write) x xs (all_assignments_fill 0 0 (x ∷ xs) h)
 
   -- ---- fragments in the places of a query
 

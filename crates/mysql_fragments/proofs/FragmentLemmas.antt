@@ -24,7 +24,7 @@ use Rattle.mysql_binding.proofs.SentTextLemmas.{AreSentBefore, statement_after, 
 use Rattle.std.proofs.lemmas.List.Folds.{list_all-append}
 use Rattle.mysql_binding.proofs.UpToSpliceLemmas.{joins_nothing, opens_nothing_after}
 use Rattle.mysql_fragments.specs.FragmentFaults.{escapes_end, is_keyword, is_keyword_from}
-use Rattle.mysql_fragments.specs.FragmentShape.{IsIdentifier, one_name, more_names, IsFragment, mark_fragment, literal_fragment, decimal_fragment, negative_decimal_fragment, double_fragment, identifier_fragment, keyword_fragment, list_fragment, row_fragment}
+use Rattle.mysql_fragments.specs.FragmentShape.{IsIdentifier, one_name, more_names, IsFragment, mark_fragment, literal_fragment, decimal_fragment, negative_decimal_fragment, double_fragment, identifier_fragment, keyword_fragment, assignment_fragment, list_fragment, row_fragment}
 use Rattle.mysql_fragments.specs.FragmentText.{doubled, identifier_text}
 use Rattle.mysql_fragments.proofs.FragmentListLemmas.{IsFragmentList, decimal_list, decimal_tokens, double_list, literal_list, mark_list, negative_list, no_marks, placeless_alone}
 use Rattle.mysql_binding.proofs.RenamedPlaceLemmas.{last-append}
@@ -361,6 +361,27 @@ list_list mode n k a b us vs x y = record {
   list_marks = omega (arith, marks-append us (comma_then vs), x.list_marks, y.list_marks);
 }
 
+abbrev pub equals_then : List Token → List Token
+equals_then list = Plain (byte " ") ∷ Plain (byte "=") ∷ Plain (byte " ") ∷ list
+
+-- a column, ` = ` and what it is set to
+pub assignment_list : (mode : Bool) (n : ℕ) (a b : List ℕ) (us vs : List Token) → IsFragmentList mode 0 a us →
+    IsFragmentList mode n b vs → IsFragmentList mode n (a ++ (byte " " ∷ byte "=" ∷ byte " " ∷ b)) (us ++ equals_then vs)
+assignment_list mode n a b us vs x y = record {
+  list_text = text_of-append us (equals_then vs) ∙ (ap (λ z. z ++ text_of (equals_then vs)) x.list_text ∙ ap (λ z. a ++ (byte " " ∷ byte "=" ∷ byte " " ∷ z)) y.list_text);
+  list_tokens = λ rest. AreTokensBefore-append mode us (equals_then vs) rest (x.list_tokens _) (plain_at mode (byte " ") _ refl, (plain_at mode (byte "=") _ refl, (plain_at mode (byte " ") _ refl, y.list_tokens rest)));
+  list_opens = λ before rest s. rw (text_then-append us (equals_then vs) rest) (x.list_opens before _ s);
+  list_settled = λ rest h. AreSettledBefore-append us (equals_then vs) rest (x.list_settled _ refl) (refl, refl, (refl, refl, (refl, refl, y.list_settled rest h)));
+  list_alone = λ more first each place before last.
+      rw (append_assoc us (equals_then vs) more)
+      (x.list_alone (equals_then (vs ++ more)) refl
+      (λ place before. y.list_alone more first each place (((before ++ byte " " ∷ []) ++ byte "=" ∷ []) ++ byte " " ∷ []) (last-append may_stand_before ((before ++ byte " " ∷ []) ++ byte "=" ∷ []) (byte " ") []))
+      place before last);
+  list_within = StayWithin-append us (equals_then vs) x.list_within (refl, (refl, (refl, y.list_within)));
+  list_names = names-append us (equals_then vs) ∙ (ap (λ z. z ++ names vs) x.list_names ∙ y.list_names);
+  list_marks = omega (arith, marks-append us (equals_then vs), x.list_marks, y.list_marks);
+}
+
 abbrev pub in_brackets : List Token → List Token
 in_brackets list = Plain (byte "(") ∷ (list ++ Plain (byte ")") ∷ [])
 
@@ -390,6 +411,10 @@ fragment_list_of mode (negative_decimal_fragment whole fraction w f) = (Plain da
 fragment_list_of mode (double_fragment text h) = double_list mode text h
 fragment_list_of mode (identifier_fragment text h) = identifier_list mode h
 fragment_list_of mode (keyword_fragment text h) = keyword_list mode text h
+fragment_list_of mode (assignment_fragment n column value c v) =
+    let x = identifier_list mode c in
+    let y = fragment_list_of mode v in
+    (x.0 ++ equals_then y.0, assignment_list mode n column value x.0 y.0 x.1 y.1)
 fragment_list_of mode (list_fragment n k first more a b) =
     let x = fragment_list_of mode a in
     let y = fragment_list_of mode b in

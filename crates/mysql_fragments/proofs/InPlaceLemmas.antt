@@ -28,11 +28,12 @@ use Rattle.mysql_binding.proofs.PieceLemmas.{joined_text_is, joined_text-pieces_
 use Rattle.mysql_binding.proofs.ValueLiteralLemmas.{has_literal}
 use Rattle.mysql_fragments.specs.Expanded.{IsBoundFragments}
 use Rattle.mysql_fragments.specs.FragmentErrors.{first_fault_from, first_float_from, has_float, is_float_item}
-use Rattle.mysql_fragments.specs.FragmentFaults.{digit_count, fault_of, is_decimal, item_fault, items_fault, list_fault, names_fault, number_fault, row_fault, rows_fault, rows_fault_from}
-use Rattle.mysql_fragments.specs.FragmentsInPlace.{ReadsAsNumber, ReadsAsDouble, ItemReadsAsItself, AreReadAsItems, read_last_item, read_more_items, AreReadAsRows, read_last_row, read_more_rows, ReadsAsItself, ReadAsThemselves}
-use Rattle.mysql_fragments.specs.FragmentText.{all_values, filled_item, filled_items, filled_row, filled_text, identifier_text, joined}
+use Rattle.mysql_fragments.specs.FragmentFaults.{assignment_fault, assignments_fault, assignments_fault_from, columns_fault, columns_fault_from, digit_count, fault_of, is_decimal, item_fault, items_fault, list_fault, names_fault, number_after, number_fault, row_fault, rows_fault, rows_fault_from}
+use Rattle.mysql_fragments.specs.FragmentsInPlace.{ReadsAsNumber, ReadsAsDouble, ItemReadsAsItself, AreReadAsItems, read_last_item, read_more_items, AreReadAsRows, read_last_row, read_more_rows, AreReadAsColumns, read_last_column, read_more_columns, IsReadAsAssignment, AreReadAsAssignments, read_last_assignment, read_more_assignments, ReadsAsItself, ReadAsThemselves}
+use Rattle.mysql_fragments.specs.FragmentText.{all_values, columns_text, filled_assignment, filled_assignments, filled_item, filled_items, filled_row, filled_text, identifier_text, joined, qualified_text}
 use Rattle.mysql_fragments.specs.GivenFragments.{GivenFragments}
 use Rattle.mysql_fragments.specs.ReadFragment.{AreReadAsNames, read_exact}
+use Rattle.mysql_fragments.specs.declared.fragment.ColumnAssignment.{ColumnAssignment}
 use Rattle.mysql_fragments.specs.declared.fragment.Item.{Item}
 use Rattle.mysql_fragments.specs.declared.fragment.Item.TheVariants as item
 use Rattle.mysql_fragments.specs.declared.fragment.Fragment.{Fragment}
@@ -117,11 +118,70 @@ module _ (mode : Bool) where
       (read_more_rows (inner ++ (codes "), " ++ (after ++ rest))) x (after ++ rest) (y ∷ rows) rest (row_reads width row x.items (codes "), " ++ (after ++ rest)) p.0 q.0 refl)
       (rows_read width (row + 1) y rows rest p.1 q.1))
 
-  -- ---- each fragment
+  -- ---- columns
 
   same_names : (names : List (Vec ℕ)) → map (λ name. identifier_text name.items) names ≡ map identifier_text (map (λ name. name.items) names)
   same_names [] = refl
   same_names (name ∷ names) = ap (λ z. identifier_text name.items ∷ z) (same_names names)
+
+  column_reads : (part : ℕ) (names : List (Vec ℕ)) (rest : List ℕ) → names_fault part names ≡ None → none_or_first may_stand_after rest ≡ true →
+      AreReadAsNames (qualified_text names ++ rest) (map (λ name. name.items) names) rest
+  column_reads part [] rest f h = cc
+  column_reads part (name ∷ names) rest f h =
+      subst (λ z. AreReadAsNames (z ++ rest) (name.items ∷ map (λ name. name.items) names) rest)
+      (sym (ap (joined (codes ".")) (same_names (name ∷ names))))
+      (names_read name.items (map (λ name. name.items) names) rest h)
+
+  columns_read : (part : ℕ) (x : Vec (Vec ℕ)) (columns : List (Vec (Vec ℕ))) (rest : List ℕ) → columns_fault_from part (x ∷ columns) ≡ None →
+      none_or_first may_stand_after rest ≡ true → AreReadAsColumns (columns_text (x ∷ columns) ++ rest) (x ∷ columns) rest
+  columns_read part x [] rest f h =
+      let p = or_none (names_fault part x.items) (columns_fault_from (number_after part (length x.items)) []) f in
+      subst (λ z. AreReadAsColumns (z ++ rest) (x ∷ []) rest) (sym (append-nil (qualified_text x.items)))
+      (read_last_column (qualified_text x.items ++ rest) x rest (column_reads part x.items rest p.0 h))
+  columns_read part x (y ∷ columns) rest f h =
+      let p = or_none (names_fault part x.items) (columns_fault_from (number_after part (length x.items)) (y ∷ columns)) f in
+      let after : List ℕ = columns_text (y ∷ columns) in
+      subst (λ z. AreReadAsColumns z (x ∷ y ∷ columns) rest) (sym (append_assoc (qualified_text x.items) (codes ", " ++ after) rest))
+      (read_more_columns (qualified_text x.items ++ (codes ", " ++ (after ++ rest))) x (after ++ rest) (y ∷ columns) rest
+      (column_reads part x.items (codes ", " ++ (after ++ rest)) p.0 refl) (columns_read (number_after part (length x.items)) y columns rest p.1 h))
+
+  -- ---- assignments
+
+  assignment_reads : (part index : ℕ) (x : ColumnAssignment) (rest : List ℕ) → assignment_fault part index x ≡ None → is_float_item x.item ≡ false →
+      none_or_first may_stand_after rest ≡ true → IsReadAsAssignment mode (filled_assignment write x ++ rest) x rest
+  assignment_reads part index x rest f n h =
+      let p = or_none (names_fault part x.column.items) (item_fault 0 index x.item) f in
+      let column : List ℕ = qualified_text x.column.items in
+      let said : List ℕ = filled_item write x.item in
+      record {
+        item = said;
+        column_read =
+            subst (λ z. AreReadAsNames z (map (λ name. name.items) x.column.items) (codes " = " ++ (said ++ rest))) (sym (append_assoc column (codes " = " ++ said) rest))
+            (column_reads part x.column.items (codes " = " ++ (said ++ rest)) p.0 refl);
+        item_read = item_reads 0 index x.item rest p.1 n h;
+      }
+
+  abbrev has_float_assignment : ColumnAssignment → Bool
+  has_float_assignment x = is_float_item x.item
+
+  assignments_read : (part index : ℕ) (x : ColumnAssignment) (xs : List ColumnAssignment) (rest : List ℕ) → assignments_fault_from part index (x ∷ xs) ≡ None →
+      list_any has_float_assignment (x ∷ xs) ≡ false → none_or_first may_stand_after rest ≡ true →
+      AreReadAsAssignments mode (filled_assignments write (x ∷ xs) ++ rest) (x ∷ xs) rest
+  assignments_read part index x [] rest f n h =
+      let p = or_none (assignment_fault part index x) (assignments_fault_from (number_after part (length x.column.items)) (index + 1) []) f in
+      let q = or_false (has_float_assignment x) (list_any has_float_assignment []) n in
+      subst (λ z. AreReadAsAssignments mode (z ++ rest) (x ∷ []) rest) (sym (append-nil (filled_assignment write x)))
+      (read_last_assignment (filled_assignment write x ++ rest) x rest (assignment_reads part index x rest p.0 q.0 h))
+  assignments_read part index x (y ∷ xs) rest f n h =
+      let p = or_none (assignment_fault part index x) (assignments_fault_from (number_after part (length x.column.items)) (index + 1) (y ∷ xs)) f in
+      let q = or_false (has_float_assignment x) (list_any has_float_assignment (y ∷ xs)) n in
+      let after : List ℕ = filled_assignments write (y ∷ xs) in
+      subst (λ z. AreReadAsAssignments mode z (x ∷ y ∷ xs) rest) (sym (append_assoc (filled_assignment write x) (codes ", " ++ after) rest))
+      (read_more_assignments (filled_assignment write x ++ (codes ", " ++ (after ++ rest))) x (after ++ rest) (y ∷ xs) rest
+      (assignment_reads part index x (codes ", " ++ (after ++ rest)) p.0 q.0 refl)
+      (assignments_read (number_after part (length x.column.items)) (index + 1) y xs rest p.1 q.1 h))
+
+  -- ---- each fragment
 
   -- before whatever may follow a place
   Reads : Fragment → Type 0
@@ -144,16 +204,19 @@ module _ (mode : Bool) where
       go [] f n = cc
       go (row ∷ rows) f n = rows_read (length row.items) 0 row rows rest f n
   one_reads (one.Identifier name) f n rest h = identifier_read name.items rest (no_backquote rest h)
-  one_reads (one.Qualified names) f n rest h = go names.items f
-    where
-      go : (names : List (Vec ℕ)) → names_fault names ≡ None →
-          AreReadAsNames (joined (codes ".") (map (λ name. identifier_text name.items) names) ++ rest) (map (λ name. name.items) names) rest
-      go [] f = cc
-      go (name ∷ names) f =
-          subst (λ z. AreReadAsNames (z ++ rest) (name.items ∷ map (λ name. name.items) names) rest)
-          (sym (ap (joined (codes ".")) (same_names (name ∷ names))))
-          (names_read name.items (map (λ name. name.items) names) rest h)
+  one_reads (one.Qualified names) f n rest h = column_reads 0 names.items rest f h
   one_reads (one.Keyword keyword) f n rest h = refl
+  one_reads (one.Identifiers columns) f n rest h = go columns.items f
+    where
+      go : (columns : List (Vec (Vec ℕ))) → columns_fault columns ≡ None → AreReadAsColumns (columns_text columns ++ rest) columns rest
+      go [] f = cc
+      go (x ∷ columns) f = columns_read 0 x columns rest f h
+  one_reads (one.Assignments assignments) f n rest h = go assignments.items f n
+    where
+      go : (xs : List ColumnAssignment) → assignments_fault xs ≡ None → list_any has_float_assignment xs ≡ false →
+          AreReadAsAssignments mode (filled_assignments write xs ++ rest) xs rest
+      go [] f n = cc
+      go (x ∷ xs) f n = assignments_read 0 0 x xs rest f n h
 
   AllRead : List Fragment → Type 0
   AllRead [] = ⊤

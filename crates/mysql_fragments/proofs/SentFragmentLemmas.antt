@@ -20,7 +20,7 @@ use Rattle.mysql_portable.proofs.ClientWordLemmas.{is_word_letter}
 use Rattle.mysql_binding.proofs.SentTextLemmas.{is_sent_first, no_word_found}
 use Rattle.mysql_float_literal.specs.DoubleShape.{IsSign, no_sign, minus_sign, IsFraction, no_fraction, point_and_digits, IsDouble, double_shape}
 use Rattle.mysql_fragments.specs.FragmentFaults.{escapes_end, is_keyword}
-use Rattle.mysql_fragments.specs.FragmentShape.{IsIdentifier, one_name, more_names, IsFragment, mark_fragment, literal_fragment, decimal_fragment, negative_decimal_fragment, double_fragment, identifier_fragment, keyword_fragment, list_fragment, row_fragment}
+use Rattle.mysql_fragments.specs.FragmentShape.{IsIdentifier, one_name, more_names, IsFragment, mark_fragment, literal_fragment, decimal_fragment, negative_decimal_fragment, double_fragment, identifier_fragment, keyword_fragment, assignment_fragment, list_fragment, row_fragment}
 use Rattle.mysql_fragments.specs.FragmentText.{doubled, identifier_text}
 use Rattle.mysql_fragments.specs.SentFragments.{begins_no_word_of_client}
 use Rattle.mysql_fragments.proofs.FragmentLemmas.{doubled_other, doubled_quote, identifier_tokens, is_word_byte, keyword_bytes, keyword_first, quoted_run, word_plain}
@@ -76,6 +76,14 @@ separator_part mode =
     both_parts mode (codes ",") (codes " ")
     (byte_part mode (byte ",") (λ rest. plain_at mode (byte ",") rest refl) (λ rest. refl) refl refl)
     (byte_part mode (byte " ") (λ rest. plain_at mode (byte " ") rest refl) (λ rest. refl) refl refl)
+
+equals_part : (mode : Bool) → SentPart mode (codes " = ")
+equals_part mode =
+    both_parts mode (codes " ") (codes "= ")
+    (byte_part mode (byte " ") (λ rest. plain_at mode (byte " ") rest refl) (λ rest. refl) refl refl)
+    (both_parts mode (codes "=") (codes " ")
+    (byte_part mode (byte "=") (λ rest. plain_at mode (byte "=") rest refl) (λ rest. refl) refl refl)
+    (byte_part mode (byte " ") (λ rest. plain_at mode (byte " ") rest refl) (λ rest. refl) refl refl))
 
 closing_part : (mode : Bool) → SentPart mode (codes ")")
 closing_part mode = byte_part mode (byte ")") (λ rest. plain_at mode (byte ")") rest refl) (λ rest. refl) refl refl
@@ -168,6 +176,10 @@ fragment_part mode (negative_decimal_fragment whole fraction w f) k = part_of mo
 fragment_part mode (double_fragment text h) k = part_of mode text (double_sent mode h)
 fragment_part mode (identifier_fragment text h) k = part_of mode text (identifier_sent mode h k)
 fragment_part mode (keyword_fragment text h) k = words_part mode text (keyword_bytes false text h)
+fragment_part mode (assignment_fragment n column value c v) k =
+    let p = all_parts is_in_line column (codes " = " ++ value) k in
+    both_parts mode column (codes " = " ++ value) (part_of mode column (identifier_sent mode c p.0))
+    (both_parts mode (codes " = ") value (equals_part mode) (fragment_part mode v (all_parts is_in_line (codes " = ") value p.1).1))
 fragment_part mode (list_fragment n m first more a b) k =
     let p = all_parts is_in_line first (codes ", " ++ more) k in
     both_parts mode first (codes ", " ++ more) (fragment_part mode a p.0)
@@ -205,6 +217,10 @@ fragment_sent mode (negative_decimal_fragment whole fraction d f) k w = negative
 fragment_sent mode (double_fragment text h) k w = double_sent mode h
 fragment_sent mode (identifier_fragment text h) k w = identifier_sent mode h k
 fragment_sent mode (keyword_fragment text h) k w = absurd (keyword_begins text h w)
+fragment_sent mode (assignment_fragment n column value c v) k w =
+    let p = all_parts is_in_line column (codes " = " ++ value) k in
+    front_and_part mode column (codes " = " ++ value) (identifier_sent mode c p.0)
+    (both_parts mode (codes " = ") value (equals_part mode) (fragment_part mode v (all_parts is_in_line (codes " = ") value p.1).1))
 fragment_sent mode (list_fragment n m first more a b) k w =
     let p = all_parts is_in_line first (codes ", " ++ more) k in
     front_and_part mode first (codes ", " ++ more) (fragment_sent mode a p.0 (first_of_front mode (codes ", " ++ more) a w))

@@ -10,12 +10,13 @@ use Rattle.mysql_sql_text.specs.LiteralShape.{AreDigits, natural_literal, negati
 use Rattle.mysql_named_params.specs.Bytes.{dash, point}
 use Rattle.mysql_binding.proofs.CauseLemmas.{or_none, map_none}
 use Rattle.mysql_fragments.specs.FragmentErrors.{first_fault_from}
-use Rattle.mysql_fragments.specs.FragmentFaults.{character_count, digit_count, ends_in_space, escapes_end, fault_of, is_decimal, is_keyword, is_number_from, item_fault, items_fault, list_fault, name_fault, names_fault, names_fault_from, number_fault, row_fault, rows_fault, rows_fault_from}
-use Rattle.mysql_fragments.specs.FragmentShape.{IsIdentifier, one_name, more_names, IsFragment, AreFragments, mark_fragment, literal_fragment, decimal_fragment, negative_decimal_fragment, double_fragment, identifier_fragment, keyword_fragment, list_fragment, row_fragment}
-use Rattle.mysql_fragments.specs.FragmentText.{joined, identifier_text, item_text, item_values, items_text, row_text, fragment_text, fragment_values, all_values, mark_number}
+use Rattle.mysql_fragments.specs.FragmentFaults.{assignment_fault, assignments_fault, assignments_fault_from, character_count, columns_fault, columns_fault_from, digit_count, ends_in_space, escapes_end, fault_of, is_decimal, is_keyword, is_number_from, item_fault, items_fault, list_fault, name_fault, names_fault, names_fault_from, number_after, number_fault, row_fault, rows_fault, rows_fault_from}
+use Rattle.mysql_fragments.specs.FragmentShape.{IsIdentifier, one_name, more_names, IsFragment, AreFragments, mark_fragment, literal_fragment, decimal_fragment, negative_decimal_fragment, double_fragment, identifier_fragment, keyword_fragment, assignment_fragment, list_fragment, row_fragment}
+use Rattle.mysql_fragments.specs.FragmentText.{assignment_text, assignment_values, columns_text, filled_assignments, joined, identifier_text, item_text, item_values, items_text, mark, qualified_text, row_text, fragment_text, fragment_values, all_values, mark_number}
 use Rattle.mysql_float_literal.specs.DoubleText.{double_text}
 use Rattle.mysql_float_literal.proofs.DoubleValueLemmas.{double_shaped}
 use Rattle.mysql_fragments.proofs.SplicedFragmentLemmas.{total}
+use Rattle.mysql_fragments.specs.declared.fragment.ColumnAssignment.{ColumnAssignment}
 use Rattle.mysql_fragments.specs.declared.fragment.Item.{Item}
 use Rattle.mysql_fragments.specs.declared.fragment.Item.TheVariants as item
 use Rattle.mysql_fragments.specs.declared.fragment.Fragment.{Fragment}
@@ -169,11 +170,63 @@ plain_name part (b ∷ bytes) h =
 path_shape : (part : ℕ) (name : Vec ℕ) (names : List (Vec ℕ)) → names_fault_from part (name ∷ names) ≡ None →
     IsIdentifier (joined (codes ".") (map (λ name. identifier_text name.items) (name ∷ names)))
 path_shape part name [] h =
-    let p = or_none (name_fault part name.items) (names_fault_from (part + 1) []) h in
+    let p = or_none (name_fault part name.items) (names_fault_from (number_after part 1) []) h in
     subst IsIdentifier (sym (append-nil (identifier_text name.items))) (one_name name.items (plain_name part name.items p.0))
 path_shape part name (next ∷ names) h =
-    let p = or_none (name_fault part name.items) (names_fault_from (part + 1) (next ∷ names)) h in
-    more_names name.items _ (plain_name part name.items p.0) (path_shape (part + 1) next names p.1)
+    let p = or_none (name_fault part name.items) (names_fault_from (number_after part 1) (next ∷ names)) h in
+    more_names name.items _ (plain_name part name.items p.0) (path_shape (number_after part 1) next names p.1)
+
+pub names_shape : (part : ℕ) (names : List (Vec ℕ)) → names_fault part names ≡ None → IsIdentifier (qualified_text names)
+names_shape part [] h = cc
+names_shape part (name ∷ names) h = path_shape part name names h
+
+-- ---- columns
+
+abbrev column_text : Vec (Vec ℕ) → List ℕ
+column_text names = qualified_text names.items
+
+-- a column has no values
+abbrev column_values : Vec (Vec ℕ) → List Value
+column_values names = []
+
+no_column_values : (columns : List (Vec (Vec ℕ))) → flat_map column_values columns ≡ []
+no_column_values [] = refl
+no_column_values (names ∷ columns) = no_column_values columns
+
+column_shapes : (mode : Bool) (part : ℕ) (columns : List (Vec (Vec ℕ))) → columns_fault_from part columns ≡ None →
+    AllShaped mode column_text column_values columns
+unfolding AllShaped
+column_shapes mode part [] h = tt
+column_shapes mode part (names ∷ columns) h =
+    let p = or_none (names_fault part names.items) (columns_fault_from (number_after part (length names.items)) columns) h in
+    (identifier_fragment _ (names_shape part names.items p.0), column_shapes mode (number_after part (length names.items)) columns p.1)
+
+columns_shape : (mode : Bool) (columns : List (Vec (Vec ℕ))) → columns_fault columns ≡ None → IsFragment mode 0 (columns_text columns)
+columns_shape mode [] h = cc
+columns_shape mode (names ∷ columns) h =
+    subst (λ n. IsFragment mode n (columns_text (names ∷ columns))) (ap length (no_column_values (names ∷ columns)))
+    (joined_shape mode column_text column_values names columns (column_shapes mode 0 (names ∷ columns) h))
+
+-- ---- assignments
+
+assignment_shape : (mode : Bool) (part index : ℕ) (x : ColumnAssignment) → assignment_fault part index x ≡ None →
+    IsFragment mode (length (assignment_values x)) (assignment_text x)
+assignment_shape mode part index x h =
+    let p = or_none (names_fault part x.column.items) (item_fault 0 index x.item) h in
+    assignment_fragment _ _ _ (names_shape part x.column.items p.0) (item_shape mode 0 index x.item p.1)
+
+assignment_shapes : (mode : Bool) (part index : ℕ) (xs : List ColumnAssignment) → assignments_fault_from part index xs ≡ None →
+    AllShaped mode assignment_text assignment_values xs
+unfolding AllShaped
+assignment_shapes mode part index [] h = tt
+assignment_shapes mode part index (x ∷ xs) h =
+    let p = or_none (assignment_fault part index x) (assignments_fault_from (number_after part (length x.column.items)) (index + 1) xs) h in
+    (assignment_shape mode part index x p.0, assignment_shapes mode (number_after part (length x.column.items)) (index + 1) xs p.1)
+
+assignments_shape : (mode : Bool) (xs : List ColumnAssignment) → assignments_fault xs ≡ None →
+    IsFragment mode (length (flat_map assignment_values xs)) (filled_assignments mark xs)
+assignments_shape mode [] h = cc
+assignments_shape mode (x ∷ xs) h = joined_shape mode assignment_text assignment_values x xs (assignment_shapes mode 0 0 (x ∷ xs) h)
 
 -- ---- fragments that can be written
 
@@ -189,12 +242,10 @@ fragment_shape mode (one.List items) h = go items.items h
     go (x ∷ items) h = items_shape mode 0 x items h
 fragment_shape mode (one.Rows rows) h = rows_shape mode rows.items h
 fragment_shape mode (one.Identifier name) h = identifier_fragment (identifier_text name.items) (one_name name.items (plain_name 0 name.items h))
-fragment_shape mode (one.Qualified names) h = go names.items h
-  where
-    go : (names : List (Vec ℕ)) → names_fault names ≡ None → IsFragment mode 0 (joined (codes ".") (map (λ name. identifier_text name.items) names))
-    go [] h = cc
-    go (name ∷ names) h = identifier_fragment _ (path_shape 0 name names h)
+fragment_shape mode (one.Qualified names) h = identifier_fragment _ (names_shape 0 names.items h)
 fragment_shape mode (one.Keyword keyword) h = keyword_fragment keyword.word.items (if_fault (is_keyword keyword.word.items) _ h)
+fragment_shape mode (one.Identifiers columns) h = columns_shape mode columns.items h
+fragment_shape mode (one.Assignments assignments) h = assignments_shape mode assignments.items h
 
 pub fragment_shapes : (mode : Bool) (place : ℕ) (fragments : List Fragment) → first_fault_from place fragments ≡ None →
     AreFragments mode (map mark_number fragments) (map fragment_text fragments)

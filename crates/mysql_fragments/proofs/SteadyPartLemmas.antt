@@ -7,7 +7,8 @@ use Rattle.std.proofs.lemmas.Bool.{cases_Bool}
 use Rattle.std.proofs.lemmas.List.Folds.{list_all-append}
 use Rattle.mysql_named_params.specs.Bytes.{backquote}
 use Rattle.mysql_portable.specs.Steady.{is_steady}
-use Rattle.mysql_fragments.specs.FragmentText.{doubled, each_after, fragment_text, identifier_text, item_text, items_text, joined, row_text}
+use Rattle.mysql_fragments.specs.FragmentText.{assignment_text, doubled, each_after, fragment_text, identifier_text, item_text, items_text, joined, qualified_text, row_text}
+use Rattle.mysql_fragments.specs.declared.fragment.ColumnAssignment.{ColumnAssignment}
 use Rattle.mysql_fragments.specs.declared.fragment.Item.{Item}
 use Rattle.mysql_fragments.specs.declared.fragment.Fragment.TheVariants as one
 
@@ -59,6 +60,22 @@ doubled_steady (b ∷ name) =
 name_steady : (name : List ℕ) → steady (identifier_text name) ≡ steady name
 name_steady name = list_all-append is_steady (doubled name) (codes "`") ∙ (and_true (steady (doubled name)) ∙ doubled_steady name)
 
+abbrev steady_names : List (Vec ℕ) → Bool
+steady_names names = list_all (λ name. list_all is_steady name.items) names
+
+names_steady : (names : List (Vec ℕ)) → steady (qualified_text names) ≡ steady_names names
+names_steady names =
+    joined_steady (codes ".") refl (map (λ name. identifier_text name.items) names)
+    ∙ mapped_steady (λ name. identifier_text name.items) (λ name. list_all is_steady name.items) (λ name. name_steady name.items) names
+
+abbrev steady_assignment : ColumnAssignment → Bool
+steady_assignment x = steady_names x.column.items && list_all is_steady (item_text x.item)
+
+assignment_steady : (x : ColumnAssignment) → steady (assignment_text x) ≡ steady_assignment x
+assignment_steady x =
+    list_all-append is_steady (qualified_text x.column.items) (codes " = " ++ item_text x.item)
+    ∙ ap (λ b. b && steady (item_text x.item)) (names_steady x.column.items)
+
 -- the tests of the parts of a fragment
 pub fragment_steady_list : (items : Vec Item) → steady (fragment_text (one.List items)) ≡ list_all (λ item. list_all is_steady (item_text item)) items.items
 fragment_steady_list items = items_steady items.items
@@ -72,6 +89,16 @@ fragment_steady_name name = name_steady name.items
 
 pub fragment_steady_names : (names : Vec (Vec ℕ)) →
     steady (fragment_text (one.Qualified names)) ≡ list_all (λ name. list_all is_steady name.items) names.items
-fragment_steady_names names =
-    joined_steady (codes ".") refl (map (λ name. identifier_text name.items) names.items)
-    ∙ mapped_steady (λ name. identifier_text name.items) (λ name. list_all is_steady name.items) (λ name. name_steady name.items) names.items
+fragment_steady_names names = names_steady names.items
+
+pub fragment_steady_columns : (columns : Vec (Vec (Vec ℕ))) →
+    steady (fragment_text (one.Identifiers columns)) ≡ list_all (λ names. list_all (λ name. list_all is_steady name.items) names.items) columns.items
+fragment_steady_columns columns =
+    joined_steady (codes ", ") refl (map (λ names. qualified_text names.items) columns.items)
+    ∙ mapped_steady (λ names. qualified_text names.items) (λ names. steady_names names.items) (λ names. names_steady names.items) columns.items
+
+pub fragment_steady_assignments : (assignments : Vec ColumnAssignment) →
+    steady (fragment_text (one.Assignments assignments))
+    ≡ list_all (λ x. list_all (λ name. list_all is_steady name.items) x.column.items && list_all is_steady (item_text x.item)) assignments.items
+fragment_steady_assignments assignments =
+    joined_steady (codes ", ") refl (map assignment_text assignments.items) ∙ mapped_steady assignment_text steady_assignment assignment_steady assignments.items

@@ -58,6 +58,8 @@ abbrev pub has_float : Fragment → Bool
 has_float (one.Value value) = is_float value
 has_float (one.List items) = list_any is_float_item items.items
 has_float (one.Rows rows) = list_any (λ row. list_any is_float_item row.items) rows.items
+has_float (one.Assignments assignments) =
+    list_any (λ assignment. is_float_item assignment.item) assignments.items
 has_float fragment = false
 
 -- the place of the first fragment with a float, if `place` fragments stand before them

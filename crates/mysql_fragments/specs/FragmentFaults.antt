@@ -1,7 +1,7 @@
 -- Why a fragment can't be written: its first fault. Names are refused as servers refuse them (MySQL
 -- Reference Manual, "Schema Object Names", "Identifier Length Limits"), and numbers of more digits
 -- than servers keep of a literal ("DECIMAL Data Type Characteristics").
-use Rattle.std.specs.Prelude.{◌+◌, ◌-◌, ◌==◌, ◌&&◌, ◌||◌, nat_eq, nat_le, nat_lt, not, ℕ, Bool, true, false, List, [], ◌∷◌, length, if◌then◌else◌, Option, None, Some, slice_index_or}
+use Rattle.std.specs.Prelude.{◌+◌, ◌-◌, ◌^◌, ◌==◌, ◌&&◌, ◌||◌, nat_eq, nat_le, nat_lt, not, ℕ, Bool, true, false, List, [], ◌∷◌, length, min, if◌then◌else◌, Option, None, Some, slice_index_or}
 use Rattle.std.specs.Char.{is_ascii_alphabetic, is_ascii_digit}
 use Rattle.std.specs.List.{list_any}
 use Rattle.std.specs.Option.{option_or}
@@ -9,6 +9,7 @@ use Rattle.std.specs.Str.{byte}
 use Rattle.std.specs.Global.{Vec}
 use Rattle.mysql_named_params.specs.Bytes.{backquote, dash, point, space, underscore}
 use Rattle.mysql_binding.specs.FirstNotAlone.{none_or_first}
+use Rattle.mysql_fragments.specs.declared.fragment.ColumnAssignment.{ColumnAssignment}
 use Rattle.mysql_fragments.specs.declared.fragment.Item.{Item}
 use Rattle.mysql_fragments.specs.declared.fragment.Item.TheVariants as item
 use Rattle.mysql_fragments.specs.declared.fragment.Fragment.{Fragment}
@@ -114,16 +115,52 @@ name_fault part (b ∷ bytes) =
     else if escapes_end (b ∷ bytes) then Some (Backslash part)
     else None
 
+-- the number so many after this one, or `usize::MAX` if that is less
+abbrev pub number_after : ℕ → ℕ → ℕ
+number_after number count = min (number + count) (2 ^ 64 - 1)
+
 -- the first fault of names from this number on
 abbrev pub names_fault_from : ℕ → List (Vec ℕ) → Option FragmentFault
 names_fault_from part [] = None
 names_fault_from part (name ∷ names) =
-    option_or (name_fault part name.items) (names_fault_from (part + 1) names)
+    option_or (name_fault part name.items) (names_fault_from (number_after part 1) names)
 
--- the first fault of a qualified identifier
-abbrev pub names_fault : List (Vec ℕ) → Option FragmentFault
-names_fault [] = Some Empty
-names_fault (name ∷ names) = names_fault_from 0 (name ∷ names)
+-- the first fault of a qualified identifier whose first name has this number in the fragment
+abbrev pub names_fault : ℕ → List (Vec ℕ) → Option FragmentFault
+names_fault part [] = Some Empty
+names_fault part (name ∷ names) = names_fault_from part (name ∷ names)
+
+-- the first fault of columns from this number of a name on: names are counted through all columns
+abbrev pub columns_fault_from : ℕ → List (Vec (Vec ℕ)) → Option FragmentFault
+columns_fault_from part [] = None
+columns_fault_from part (names ∷ columns) = option_or (names_fault part names.items)
+    (columns_fault_from (number_after part (length names.items)) columns)
+
+-- the first fault of columns
+abbrev pub columns_fault : List (Vec (Vec ℕ)) → Option FragmentFault
+columns_fault [] = Some Empty
+columns_fault (names ∷ columns) = columns_fault_from 0 (names ∷ columns)
+
+-- ---- assignments
+
+-- the fault of the assignment of this number: its column's, whose first name has this number, and
+-- then its item's
+abbrev pub assignment_fault : (part index : ℕ) → ColumnAssignment → Option FragmentFault
+assignment_fault part index assignment =
+    option_or (names_fault part assignment.column.items) (item_fault 0 index assignment.item)
+
+-- the first fault of assignments from this number of a name and this number of an assignment on
+abbrev pub assignments_fault_from : (part index : ℕ) → List ColumnAssignment
+    → Option FragmentFault
+assignments_fault_from part index [] = None
+assignments_fault_from part index (assignment ∷ assignments) =
+    option_or (assignment_fault part index assignment) (assignments_fault_from
+    (number_after part (length assignment.column.items)) (index + 1) assignments)
+
+-- the first fault of assignments
+abbrev pub assignments_fault : List ColumnAssignment → Option FragmentFault
+assignments_fault [] = Some Empty
+assignments_fault (assignment ∷ assignments) = assignments_fault_from 0 0 (assignment ∷ assignments)
 
 -- ---- keywords
 
@@ -150,5 +187,7 @@ fault_of (one.Decimal text) = number_fault 0 0 text.items
 fault_of (one.List items) = list_fault items.items
 fault_of (one.Rows rows) = rows_fault rows.items
 fault_of (one.Identifier name) = name_fault 0 name.items
-fault_of (one.Qualified names) = names_fault names.items
+fault_of (one.Qualified names) = names_fault 0 names.items
 fault_of (one.Keyword keyword) = if is_keyword keyword.word.items then None else Some Keyword
+fault_of (one.Identifiers columns) = columns_fault columns.items
+fault_of (one.Assignments assignments) = assignments_fault assignments.items

@@ -1,5 +1,6 @@
 -- The shape of what is put in a place of a query, with the number of its marks: a mark, a literal,
--- an exact number, a double, an identifier, a keyword, or several of these in a list or a row.
+-- an exact number, a double, an identifier, a keyword, an assignment, or several of these in a list
+-- or a row.
 use Rattle.std.specs.Prelude.{◌+◌, ℕ, Bool, IsTrue, IsFalse, List, [], ◌∷◌, ◌++◌, codes, ⊤}
 use Rattle.mysql_sql_text.specs.LiteralShape.{AreDigits, IsLiteral}
 use Rattle.mysql_float_literal.specs.DoubleShape.{IsDouble}
@@ -30,6 +31,9 @@ pub data IsFragment (mode : Bool) : ℕ → List ℕ → Type 0 where
   identifier_fragment : (text : List ℕ) → IsIdentifier text → IsFragment mode 0 text
   -- a keyword
   keyword_fragment : (text : List ℕ) → IsTrue (is_keyword text) → IsFragment mode 0 text
+  -- an assignment: a column, ` = ` and what it is set to
+  assignment_fragment : (n : ℕ) (column value : List ℕ) → IsIdentifier column →
+      IsFragment mode n value → IsFragment mode n (column ++ (codes " = " ++ value))
   -- one after another
   list_fragment : (n k : ℕ) (first more : List ℕ) → IsFragment mode n first →
       IsFragment mode k more → IsFragment mode (n + k) (first ++ (codes ", " ++ more))

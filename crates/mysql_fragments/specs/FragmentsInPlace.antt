@@ -10,6 +10,7 @@ use Rattle.mysql_float_literal.specs.DoubleText.{double_value}
 use Rattle.mysql_float_literal.specs.declared.double.Double.{Double}
 use Rattle.mysql_binding.specs.Pieces.{joined_text}
 use Rattle.mysql_fragments.specs.ReadFragment.{AreReadAsNames, Exact, read_exact, read_identifier}
+use Rattle.mysql_fragments.specs.declared.fragment.ColumnAssignment.{ColumnAssignment}
 use Rattle.mysql_fragments.specs.declared.fragment.Item.{Item}
 use Rattle.mysql_fragments.specs.declared.fragment.Item.TheVariants as item
 use Rattle.mysql_fragments.specs.declared.fragment.Fragment.{Fragment}
@@ -51,8 +52,40 @@ pub data AreReadAsRows (mode : Bool) : List ℕ → List (Vec Item) → List ℕ
       (rest : List ℕ) → AreReadAsItems mode text row.items (codes "), " ++ more) →
       AreReadAsRows mode more rows rest → AreReadAsRows mode (codes "(" ++ text) (row ∷ rows) rest
 
+-- the text begins with the names of a column, with `.` between them, and goes on with the rest
+abbrev pub IsReadAsColumn : List ℕ → Vec (Vec ℕ) → List ℕ → Type 0
+IsReadAsColumn text column rest = AreReadAsNames text (map (λ name. name.items) column.items) rest
+
+-- the text begins with these columns, with `, ` between them, and goes on with the rest
+pub data AreReadAsColumns : List ℕ → List (Vec (Vec ℕ)) → List ℕ → Type 0 where
+  read_last_column : (text : List ℕ) (column : Vec (Vec ℕ)) (rest : List ℕ) →
+      IsReadAsColumn text column rest → AreReadAsColumns text (column ∷ []) rest
+  read_more_columns : (text : List ℕ) (column : Vec (Vec ℕ)) (more : List ℕ)
+      (columns : List (Vec (Vec ℕ))) (rest : List ℕ) →
+      IsReadAsColumn text column (codes ", " ++ more) → AreReadAsColumns more columns rest →
+      AreReadAsColumns text (column ∷ columns) rest
+
+-- the text begins with the column of an assignment, ` = ` and a text of its item, which reads as
+-- itself, and goes on with the rest
+pub record IsReadAsAssignment (mode : Bool) (text : List ℕ) (said : ColumnAssignment)
+    (rest : List ℕ) : Type 0 where
+  pub item : List ℕ
+  pub column_read : IsReadAsColumn text said.column (codes " = " ++ (item ++ rest))
+  pub item_read : ItemReadsAsItself mode said.item item rest
+
+-- the text begins with these assignments, with `, ` between them, and goes on with the rest
+pub data AreReadAsAssignments (mode : Bool) : List ℕ → List ColumnAssignment → List ℕ → Type 0
+  where
+    read_last_assignment : (text : List ℕ) (said : ColumnAssignment) (rest : List ℕ) →
+        IsReadAsAssignment mode text said rest → AreReadAsAssignments mode text (said ∷ []) rest
+    read_more_assignments : (text : List ℕ) (said : ColumnAssignment) (more : List ℕ)
+        (assignments : List ColumnAssignment) (rest : List ℕ) →
+        IsReadAsAssignment mode text said (codes ", " ++ more) →
+        AreReadAsAssignments mode more assignments rest →
+        AreReadAsAssignments mode text (said ∷ assignments) rest
+
 -- this text of the fragment, before this rest, is the literal of a value or the bytes of a keyword,
--- or reads as the fragment's number, names, items or rows
+-- or reads as the fragment's number, names, items, rows, columns or assignments
 abbrev pub ReadsAsItself : Bool → Fragment → List ℕ → List ℕ → Type 0
 ReadsAsItself mode (one.Value value) text rest = literal_of mode value ≡ Some text
 ReadsAsItself mode (one.Decimal number) text rest = ReadsAsNumber number.items text rest
@@ -65,6 +98,10 @@ ReadsAsItself mode (one.Identifier name) text rest =
 ReadsAsItself mode (one.Qualified names) text rest =
     AreReadAsNames (text ++ rest) (map (λ name. name.items) names.items) rest
 ReadsAsItself mode (one.Keyword keyword) text rest = text ≡ keyword.word.items
+ReadsAsItself mode (one.Identifiers columns) text rest =
+    AreReadAsColumns (text ++ rest) columns.items rest
+ReadsAsItself mode (one.Assignments assignments) text rest =
+    AreReadAsAssignments mode (text ++ rest) assignments.items rest
 
 -- each of the fragments, in these texts between the pieces of a query, reads as itself
 abbrev pub ReadAsThemselves : Bool → List (List ℕ) → List Fragment → List (List ℕ) → Type 0

@@ -3,10 +3,10 @@ ghost use Rattle.std.specs.Prelude.{◌≡◌, ◌+◌, ◌++◌, ◌≤◌, cod
 ghost use Rattle.std.specs.List.{flat_map};
 ghost use Rattle.mysql_binding.specs.LiteralForm.{written_literal};
 ghost use Rattle.mysql_binding.specs.PushedLiteral.{AreKnownUnlessFloats};
-ghost use Rattle.mysql_fragments.specs.FragmentText.{filled_item, filled_items, filled_row, filled_text, fragment_values, item_values, joined};
+ghost use Rattle.mysql_fragments.specs.FragmentText.{assignment_values, filled_assignment, filled_assignments, filled_item, filled_items, filled_row, filled_text, fragment_values, item_values, joined};
 
-use crate::fragment::{Fragment, Item};
-use crate::names::{append_identifier, append_names, append_separator};
+use crate::fragment::{ColumnAssignment, Fragment, Item};
+use crate::names::{append_columns, append_identifier, append_names, append_separator};
 use mysql_binding::{LiteralForm, append_piece, put_literal};
 
 /// Writes the text of a fragment with the literals of its values into the text from this index on,
@@ -35,6 +35,10 @@ pub(crate) fn append_filled<F: LiteralForm>(
         Fragment::Identifier(name) => append_identifier(text, at, name.as_slice()),
         Fragment::Qualified(names) => append_names(text, at, names.as_slice()),
         Fragment::Keyword(word) => append_piece(text, at, word.as_bytes()),
+        Fragment::Identifiers(columns) => append_columns(text, at, columns.as_slice()),
+        Fragment::Assignments(assignments) => {
+            append_assignments(text, at, assignments.as_slice(), form)
+        }
     }
 }
 
@@ -108,4 +112,51 @@ fn append_row<F: LiteralForm>(text: &mut [u8], at: usize, row: &Vec<Item>, form:
     let start = append_piece(text, at, b"(");
     let end = append_items(text, start, row.as_slice(), form);
     append_piece(text, end, b")")
+}
+
+// Writes assignments with commas between them, and returns the index after them.
+fn append_assignments<F: LiteralForm>(
+    text: &mut [u8],
+    at: usize,
+    assignments: &[ColumnAssignment],
+    form: &F,
+) -> usize
+    requires room { at + length
+        (filled_assignments (written_literal (F.literal form.now)) assignments.now)
+        ≤ length text.old }
+    ensures next { result ≡ at + length
+        (filled_assignments (written_literal (F.literal form.now)) assignments.now) }
+    ensures front { take result text.new ≡ take at text.old
+        ++ filled_assignments (written_literal (F.literal form.now)) assignments.now }
+    ensures known { AreKnownUnlessFloats (F.literal form.now) (F.IsKnown form.now)
+        (flat_map assignment_values assignments.now) }
+{
+    let mut end = at;
+    for (i, assignment) in assignments.iter().enumerate() {
+        end = append_separator(text, end, i, b", ");
+        end = append_assignment(text, end, assignment, form);
+    }
+    end
+}
+
+// Writes an assignment, and returns the index after it.
+fn append_assignment<F: LiteralForm>(
+    text: &mut [u8],
+    at: usize,
+    assignment: &ColumnAssignment,
+    form: &F,
+) -> usize
+    requires room { at + length
+        (filled_assignment (written_literal (F.literal form.now)) assignment.now)
+        ≤ length text.old }
+    ensures next { result ≡ at + length
+        (filled_assignment (written_literal (F.literal form.now)) assignment.now) }
+    ensures front { take result text.new ≡ take at text.old
+        ++ filled_assignment (written_literal (F.literal form.now)) assignment.now }
+    ensures known { AreKnownUnlessFloats (F.literal form.now) (F.IsKnown form.now)
+        (assignment_values assignment.now) }
+{
+    let column_end = append_names(text, at, assignment.column.as_slice());
+    let start = append_piece(text, column_end, b" = ");
+    append_item(text, start, &assignment.item, form)
 }

@@ -1,9 +1,9 @@
 //! Which fragments can be written.
 ghost use Rattle.std.specs.Prelude.{◌≡◌, ◌==◌, false, None, Some, if◌then◌else◌};
 ghost use Rattle.std.specs.List.{list_any};
-ghost use Rattle.mysql_fragments.specs.FragmentFaults.{character_count, digit_count, ends_in_space, escapes_end, fault_of, is_continuation, is_decimal, is_keyword, is_keyword_from, is_number_from, item_fault, items_fault, list_fault, name_fault, names_fault, names_fault_from, number_fault, row_fault, rows_fault, rows_fault_from};
+ghost use Rattle.mysql_fragments.specs.FragmentFaults.{assignment_fault, assignments_fault, assignments_fault_from, character_count, columns_fault, columns_fault_from, digit_count, ends_in_space, escapes_end, fault_of, is_continuation, is_decimal, is_keyword, is_keyword_from, is_number_from, item_fault, items_fault, list_fault, name_fault, names_fault, names_fault_from, number_fault, row_fault, rows_fault, rows_fault_from};
 
-use crate::fragment::{Fragment, Item};
+use crate::fragment::{ColumnAssignment, Fragment, Item};
 use crate::fragments_error::FragmentFault;
 
 impl Fragment {
@@ -17,8 +17,10 @@ impl Fragment {
             Fragment::List(items) => list_fault(items.as_slice()),
             Fragment::Rows(rows) => rows_fault(rows.as_slice()),
             Fragment::Identifier(name) => name_fault(name.as_slice(), 0),
-            Fragment::Qualified(names) => names_fault(names.as_slice()),
+            Fragment::Qualified(names) => names_fault(names.as_slice(), 0),
             Fragment::Keyword(word) => keyword_fault(word.as_bytes()),
+            Fragment::Identifiers(columns) => columns_fault(columns.as_slice()),
+            Fragment::Assignments(assignments) => assignments_fault(assignments.as_slice()),
         }
     }
 }
@@ -145,25 +147,91 @@ fn is_number(digits: &[u8]) -> bool
     digit
 }
 
-// The first fault of a qualified identifier.
-fn names_fault(names: &[Vec<u8>]) -> Option<FragmentFault>
-    ensures { result ≡ names_fault names.now }
+// The first fault of assignments.
+fn assignments_fault(assignments: &[ColumnAssignment]) -> Option<FragmentFault>
+    ensures { result ≡ assignments_fault assignments.now }
+{
+    if assignments.is_empty() {
+        Some(FragmentFault::Empty)
+    } else {
+        first_assignment_fault(assignments)
+    }
+}
+
+// The first fault of the assignments, whose names are counted through all columns.
+fn first_assignment_fault(assignments: &[ColumnAssignment]) -> Option<FragmentFault>
+    ensures { result ≡ assignments_fault_from 0 0 assignments.now }
+{
+    let mut part: usize = 0;
+    for (index, assignment) in assignments.iter().enumerate() {
+        if let Some(fault) = assignment_fault(assignment, part, index) {
+            return Some(fault);
+        }
+        part = part.saturating_add(assignment.column.len());
+    }
+    None
+}
+
+// The fault of the assignment of this number, whose first name has this number.
+fn assignment_fault(
+    assignment: &ColumnAssignment,
+    part: usize,
+    index: usize,
+) -> Option<FragmentFault>
+    ensures { result ≡ assignment_fault part index assignment.now }
+{
+    match names_fault(assignment.column.as_slice(), part) {
+        Some(fault) => Some(fault),
+        None => item_fault(&assignment.item, 0, index),
+    }
+}
+
+// The first fault of columns.
+fn columns_fault(columns: &[Vec<Vec<u8>>]) -> Option<FragmentFault>
+    ensures { result ≡ columns_fault columns.now }
+{
+    if columns.is_empty() {
+        Some(FragmentFault::Empty)
+    } else {
+        first_column_fault(columns)
+    }
+}
+
+// The first fault of the columns, whose names are counted through all of them.
+fn first_column_fault(columns: &[Vec<Vec<u8>>]) -> Option<FragmentFault>
+    ensures { result ≡ columns_fault_from 0 columns.now }
+{
+    let mut part: usize = 0;
+    for names in columns {
+        if let Some(fault) = names_fault(names.as_slice(), part) {
+            return Some(fault);
+        }
+        part = part.saturating_add(names.len());
+    }
+    None
+}
+
+// The first fault of a qualified identifier whose first name has this number in the fragment.
+fn names_fault(names: &[Vec<u8>], part: usize) -> Option<FragmentFault>
+    ensures { result ≡ names_fault part names.now }
 {
     if names.is_empty() {
         Some(FragmentFault::Empty)
     } else {
-        first_name_fault(names)
+        first_name_fault(names, part)
     }
 }
 
-// The first fault of names.
-fn first_name_fault(names: &[Vec<u8>]) -> Option<FragmentFault>
-    ensures { result ≡ names_fault_from 0 names.now }
+// The first fault of names from this number on.
+fn first_name_fault(names: &[Vec<u8>], part: usize) -> Option<FragmentFault>
+    ensures { result ≡ names_fault_from part names.now }
 {
-    for (part, name) in names.iter().enumerate() {
-        if let Some(fault) = name_fault(name.as_slice(), part) {
+    let mut number = part;
+    for name in names {
+        if let Some(fault) = name_fault(name.as_slice(), number) {
             return Some(fault);
         }
+        number = number.saturating_add(1);
     }
     None
 }

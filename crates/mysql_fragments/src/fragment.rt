@@ -38,6 +38,20 @@ pub enum Fragment {
     Qualified(Vec<Vec<u8>>),
     /// A keyword, which is written as it is.
     Keyword(Keyword),
+    /// Names with `, ` between them, each written as a `Qualified`: a list of columns, as for
+    /// `INSERT INTO t (?)`.
+    Identifiers(Vec<Vec<Vec<u8>>>),
+    /// Assignments with `, ` between them, as for `SET ?`: `` `a` = 1, `t`.`b` = 'x' ``.
+    Assignments(Vec<ColumnAssignment>),
+}
+
+/// A column and what it is set to.
+#[derive(Drop)]
+pub struct ColumnAssignment {
+    /// The names of the column, as those of a [`Fragment::Qualified`].
+    pub column: Vec<Vec<u8>>,
+    /// What it is set to, as an item of a list.
+    pub item: Item,
 }
 
 /// A keyword that stands in the program, as `ASC` or `IS NOT NULL`: words of ASCII letters and `_`

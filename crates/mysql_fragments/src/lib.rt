@@ -1,4 +1,5 @@
-//! Fragments: lists, rows, exact numbers, identifiers and keywords in the places of a query.
+//! Fragments: lists, rows, exact numbers, identifiers, columns, assignments and keywords in the
+//! places of a query.
 //!
 //! [`bind_fragments_in`] is the call for a mode of the server, and [`bind_fragments`] the same for
 //! the mode in which a backslash escapes. [`expanded_query_in`] gives the query with marks and the
@@ -41,7 +42,7 @@ pub use expanded::{
     ExpandedQuery, bind_fragments, bind_fragments_in, expanded_for_literals, expanded_query,
     expanded_query_in,
 };
-pub use fragment::{Fragment, Fragments, Item, Keyword};
+pub use fragment::{ColumnAssignment, Fragment, Fragments, Item, Keyword};
 pub use fragment_ref::FragmentRef;
 pub use fragments_error::{FragmentFault, FragmentsError};
 pub use mysql_binding::TextInRoom;

@@ -8,9 +8,9 @@ ghost use Rattle.mysql_binding.specs.LiteralForm.{written_literal};
 ghost use Rattle.mysql_binding.specs.MeasuredText.{IsOfFields};
 ghost use Rattle.mysql_binding.specs.PushedLiteral.{AreKnownUnlessFloats};
 ghost use Rattle.mysql_fragments.specs.FilledText.{separator_before};
-ghost use Rattle.mysql_fragments.specs.FragmentText.{doubled, filled_item, filled_items, filled_row, filled_text, fragment_values, identifier_text, item_values, joined};
+ghost use Rattle.mysql_fragments.specs.FragmentText.{assignment_values, columns_text, doubled, filled_assignment, filled_assignments, filled_item, filled_items, filled_row, filled_text, fragment_values, identifier_text, item_values, joined};
 
-use crate::fragment::{Fragment, Item};
+use crate::fragment::{ColumnAssignment, Fragment, Item};
 use mysql_binding::{LiteralForm, literal_len};
 use mysql_values::value::ValueRef;
 
@@ -36,6 +36,8 @@ pub(crate) fn with_fragment<F: LiteralForm>(
         Fragment::Identifier(name) => with_identifier(len, name.as_slice()),
         Fragment::Qualified(names) => with_names(len, names.as_slice()),
         Fragment::Keyword(word) => with_more(len, word.as_bytes().len() as u128),
+        Fragment::Identifiers(columns) => with_columns(len, columns.as_slice()),
+        Fragment::Assignments(assignments) => with_assignments(len, assignments.as_slice(), form),
     }
 }
 
@@ -100,6 +102,58 @@ fn with_row<F: LiteralForm>(len: usize, row: &Vec<Item>, form: &F) -> Option<usi
 {
     let sum = with_items(len, row.as_slice(), form)?;
     with_more(sum, 2)
+}
+
+// The length with that of assignments with commas between them.
+fn with_assignments<F: LiteralForm>(
+    len: usize,
+    assignments: &[ColumnAssignment],
+    form: &F,
+) -> Option<usize>
+    ensures len { IfSome result (λ sum. sum ≡ len + length
+        (filled_assignments (written_literal (F.literal form.now)) assignments.now)) }
+    ensures too_long { result ≡ None → 2 ^ 63 ≤ len + length
+        (filled_assignments (written_literal (F.literal form.now)) assignments.now) }
+    ensures known { IfSome result (λ sum. AreKnownUnlessFloats (F.literal form.now) IsOfFields
+        (flat_map assignment_values assignments.now)) }
+{
+    let mut sum = len;
+    for (i, assignment) in assignments.iter().enumerate() {
+        sum = with_separator(sum, i, b", ")?;
+        sum = with_assignment(sum, assignment, form)?;
+    }
+    Some(sum)
+}
+
+// The length with that of an assignment.
+fn with_assignment<F: LiteralForm>(
+    len: usize,
+    assignment: &ColumnAssignment,
+    form: &F,
+) -> Option<usize>
+    ensures len { IfSome result (λ sum. sum ≡ len + length
+        (filled_assignment (written_literal (F.literal form.now)) assignment.now)) }
+    ensures too_long { result ≡ None → 2 ^ 63 ≤ len + length
+        (filled_assignment (written_literal (F.literal form.now)) assignment.now) }
+    ensures known { IfSome result (λ sum. AreKnownUnlessFloats (F.literal form.now) IsOfFields
+        (assignment_values assignment.now)) }
+{
+    let sum = with_names(len, assignment.column.as_slice())?;
+    let sum = with_more(sum, 3)?;
+    with_item(sum, &assignment.item, form)
+}
+
+// The length with that of columns with commas between them.
+fn with_columns(len: usize, columns: &[Vec<Vec<u8>>]) -> Option<usize>
+    ensures len { IfSome result (λ sum. sum ≡ len + length (columns_text columns.now)) }
+    ensures too_long { result ≡ None → 2 ^ 63 ≤ len + length (columns_text columns.now) }
+{
+    let mut sum = len;
+    for (i, names) in columns.iter().enumerate() {
+        sum = with_separator(sum, i, b", ")?;
+        sum = with_names(sum, names.as_slice())?;
+    }
+    Some(sum)
 }
 
 // The length with that of names as identifiers with points between them.

@@ -1,9 +1,24 @@
 //! Names as identifiers in backquotes, written into a slice that has room for them.
 ghost use Rattle.std.specs.Prelude.{◌≡◌, ◌+◌, ◌++◌, ◌≤◌, [], ◌∷◌, codes, length, map, take};
 ghost use Rattle.mysql_fragments.specs.FilledText.{separator_before};
-ghost use Rattle.mysql_fragments.specs.FragmentText.{doubled, identifier_text, joined};
+ghost use Rattle.mysql_fragments.specs.FragmentText.{columns_text, doubled, identifier_text, joined};
 
 use mysql_binding::append_piece;
+
+/// Writes columns with commas between them into the text from this index on, and returns the index
+/// after them. What stands before them is kept.
+pub(crate) fn append_columns(text: &mut [u8], at: usize, columns: &[Vec<Vec<u8>>]) -> usize
+    requires room { at + length (columns_text columns.now) ≤ length text.old }
+    ensures next { result ≡ at + length (columns_text columns.now) }
+    ensures front { take result text.new ≡ take at text.old ++ columns_text columns.now }
+{
+    let mut end = at;
+    for (i, names) in columns.iter().enumerate() {
+        end = append_separator(text, end, i, b", ");
+        end = append_names(text, end, names.as_slice());
+    }
+    end
+}
 
 /// Writes names as identifiers with points between them into the text from this index on, and
 /// returns the index after them. What stands before them is kept.

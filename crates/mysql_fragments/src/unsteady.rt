@@ -1,5 +1,5 @@
 //! The first fragment whose text isn't steady.
-ghost use Rattle.std.specs.Prelude.{◌≡◌, List};
+ghost use Rattle.std.specs.Prelude.{◌≡◌, ◌&&◌, List};
 ghost use Rattle.std.specs.List.{list_all};
 ghost use Rattle.mysql_portable.specs.Steady.{is_steady};
 ghost use Rattle.mysql_params_core.specs.Referents.{referents};
@@ -8,7 +8,7 @@ ghost use Rattle.mysql_fragments.specs.FragmentText.{fragment_text, item_text};
 ghost use Rattle.mysql_fragments.specs.declared.fragment.Fragment as said_fragment;
 ghost use Rattle.mysql_fragments.specs.SteadyFragments.{first_unsteady_from};
 
-use crate::fragment::{Fragment, Item};
+use crate::fragment::{ColumnAssignment, Fragment, Item};
 use crate::fragment_ref::FragmentRef;
 use mysql_portable::steady::first_unsteady;
 
@@ -64,6 +64,8 @@ fn is_steady_fragment(fragment: &Fragment) -> bool
         Fragment::Identifier(name) => is_steady_text(name.as_slice()),
         Fragment::Qualified(names) => are_steady_names(names.as_slice()),
         Fragment::Keyword(word) => is_steady_text(word.as_bytes()),
+        Fragment::Identifiers(columns) => are_steady_columns(columns.as_slice()),
+        Fragment::Assignments(assignments) => are_steady_assignments(assignments.as_slice()),
     }
 }
 
@@ -105,4 +107,33 @@ fn are_steady_names(names: &[Vec<u8>]) -> bool
     ensures { result ≡ list_all (λ name. list_all is_steady name.items) names.now }
 {
     names.iter().all(|name| is_steady_text(name.as_slice()))
+}
+
+// Whether all names of all columns are steady.
+fn are_steady_columns(columns: &[Vec<Vec<u8>>]) -> bool
+    ensures { result ≡ list_all (λ names.
+        list_all (λ name. list_all is_steady name.items) names.items) columns.now }
+{
+    columns
+        .iter()
+        .all(|names| are_steady_names(names.as_slice()))
+}
+
+// Whether the names and the texts of the items of all assignments are steady.
+fn are_steady_assignments(assignments: &[ColumnAssignment]) -> bool
+    ensures { result ≡ list_all (λ assignment.
+        list_all (λ name. list_all is_steady name.items) assignment.column.items
+        && list_all is_steady (item_text assignment.item)) assignments.now }
+{
+    assignments
+        .iter()
+        .all(|assignment| is_steady_assignment(assignment))
+}
+
+// Whether the names of the column and the text of the item are steady.
+fn is_steady_assignment(assignment: &ColumnAssignment) -> bool
+    ensures { result ≡ (list_all (λ name. list_all is_steady name.items) assignment.now.column.items
+        && list_all is_steady (item_text assignment.now.item)) }
+{
+    are_steady_names(assignment.column.as_slice()) && is_steady_item(&assignment.item)
 }

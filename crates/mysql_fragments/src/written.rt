@@ -6,9 +6,9 @@ ghost use Rattle.mysql_values.specs.Literal.{is_float};
 ghost use Rattle.mysql_binding.specs.LiteralForm.{written_literal};
 ghost use Rattle.mysql_binding.specs.PushedLiteral.{AreKnownUnlessFloats};
 ghost use Rattle.mysql_fragments.specs.FragmentErrors.{has_float, is_float_item};
-ghost use Rattle.mysql_fragments.specs.FragmentText.{filled_item, filled_items, filled_row, filled_text, fragment_values, identifier_text, item_values, joined};
+ghost use Rattle.mysql_fragments.specs.FragmentText.{assignment_values, columns_text, filled_assignment, filled_assignments, filled_item, filled_items, filled_row, filled_text, fragment_values, identifier_text, item_values, joined};
 
-use crate::fragment::{Fragment, Item};
+use crate::fragment::{ColumnAssignment, Fragment, Item};
 use crate::value_form::ValueForm;
 use mysql_values::value::Value;
 use std::alloc::AllocError;
@@ -35,6 +35,8 @@ pub(crate) fn push_fragment<F: ValueForm>(
         Fragment::Identifier(name) => push_identifier(text, name.as_slice()),
         Fragment::Qualified(names) => push_names(text, names.as_slice()),
         Fragment::Keyword(word) => text.extend_from_slice(word.as_bytes()),
+        Fragment::Identifiers(columns) => push_columns(text, columns.as_slice()),
+        Fragment::Assignments(assignments) => push_assignments(text, assignments.as_slice(), form),
     }
 }
 
@@ -93,6 +95,60 @@ fn push_rows<F: ValueForm>(
     Ok(())
 }
 
+// Writes assignments with commas between them to the end.
+fn push_assignments<F: ValueForm>(
+    text: &mut Vec<u8>,
+    assignments: &[ColumnAssignment],
+    form: &F,
+) -> Result<(), AllocError>
+    ensures text { IfOk result (λ done. text.new.items ≡ text.old.items
+        ++ filled_assignments (written_literal (F.written form.now)) assignments.now) }
+    ensures known { IfOk result (λ done. AreKnownUnlessFloats (F.written form.now)
+        (F.IsKnown form.now) (flat_map assignment_values assignments.now)) }
+    ensures kept { OnErr result (StartsWith text.new.items text.old.items) }
+{
+    for (i, assignment) in assignments.iter().enumerate() {
+        if i > 0 {
+            text.extend_from_slice(b", ")?;
+        }
+        push_assignment(text, assignment, form)?;
+    }
+    Ok(())
+}
+
+// Writes an assignment to the end.
+fn push_assignment<F: ValueForm>(
+    text: &mut Vec<u8>,
+    assignment: &ColumnAssignment,
+    form: &F,
+) -> Result<(), AllocError>
+    ensures text { IfOk result (λ done. text.new.items ≡ text.old.items
+        ++ filled_assignment (written_literal (F.written form.now)) assignment.now) }
+    ensures known { IfOk result (λ done. AreKnownUnlessFloats (F.written form.now)
+        (F.IsKnown form.now) (assignment_values assignment.now)) }
+    ensures kept { OnErr result (StartsWith text.new.items text.old.items) }
+{
+    push_names(text, assignment.column.as_slice())?;
+    text.extend_from_slice(b" = ")?;
+    push_item(text, &assignment.item, form)?;
+    Ok(())
+}
+
+// Writes columns with commas between them to the end.
+fn push_columns(text: &mut Vec<u8>, columns: &[Vec<Vec<u8>>]) -> Result<(), AllocError>
+    ensures text { IfOk result (λ done.
+        text.new.items ≡ text.old.items ++ columns_text columns.now) }
+    ensures kept { OnErr result (StartsWith text.new.items text.old.items) }
+{
+    for (i, names) in columns.iter().enumerate() {
+        if i > 0 {
+            text.extend_from_slice(b", ")?;
+        }
+        push_names(text, names.as_slice())?;
+    }
+    Ok(())
+}
+
 /// Writes names as identifiers with points between them to the end.
 pub(crate) fn push_names(text: &mut Vec<u8>, names: &[Vec<u8>]) -> Result<(), AllocError>
     ensures text { IfOk result (λ done. text.new.items ≡ text.old.items
@@ -137,11 +193,15 @@ pub(crate) fn push_values(values: &mut Vec<Value>, fragment: &Fragment) -> Resul
         }
         Fragment::List(items) => push_item_values(values, items.as_slice()),
         Fragment::Rows(rows) => push_row_values(values, rows.as_slice()),
+        Fragment::Assignments(assignments) => {
+            push_assignment_values(values, assignments.as_slice())
+        }
         Fragment::Decimal(_)
         | Fragment::Double(_)
         | Fragment::Identifier(_)
         | Fragment::Qualified(_)
-        | Fragment::Keyword(_) => Ok(()),
+        | Fragment::Keyword(_)
+        | Fragment::Identifiers(_) => Ok(()),
     }
 }
 
@@ -181,6 +241,20 @@ fn push_row_values(values: &mut Vec<Value>, rows: &[Vec<Item>]) -> Result<(), Al
     Ok(())
 }
 
+// Copies the values of assignments to the end.
+fn push_assignment_values(
+    values: &mut Vec<Value>,
+    assignments: &[ColumnAssignment],
+) -> Result<(), AllocError>
+    ensures { IfOk result (λ done. values.new.items
+        ≡ values.old.items ++ flat_map assignment_values assignments.now) }
+{
+    for assignment in assignments {
+        push_item_value(values, &assignment.item)?;
+    }
+    Ok(())
+}
+
 /// Whether a value of the fragment is a float.
 pub(crate) fn has_float(fragment: &Fragment) -> bool
     ensures { result ≡ has_float fragment.now }
@@ -189,11 +263,13 @@ pub(crate) fn has_float(fragment: &Fragment) -> bool
         Fragment::Value(value) => is_float(value),
         Fragment::List(items) => has_float_item(items.as_slice()),
         Fragment::Rows(rows) => has_float_row(rows.as_slice()),
+        Fragment::Assignments(assignments) => has_float_assignment(assignments.as_slice()),
         Fragment::Decimal(_)
         | Fragment::Double(_)
         | Fragment::Identifier(_)
         | Fragment::Qualified(_)
-        | Fragment::Keyword(_) => false,
+        | Fragment::Keyword(_)
+        | Fragment::Identifiers(_) => false,
     }
 }
 
@@ -226,4 +302,13 @@ fn has_float_row(rows: &[Vec<Item>]) -> bool
     ensures { result ≡ list_any (λ row. list_any is_float_item row.items) rows.now }
 {
     rows.iter().any(|row| has_float_item(row.as_slice()))
+}
+
+// Whether the item of an assignment is a float.
+fn has_float_assignment(assignments: &[ColumnAssignment]) -> bool
+    ensures { result ≡ list_any (λ assignment. is_float_item assignment.item) assignments.now }
+{
+    assignments
+        .iter()
+        .any(|assignment| is_float_item(&assignment.item))
 }

@@ -8,6 +8,8 @@ mod borrowed;
 #[cfg(test)]
 mod bound;
 #[cfg(test)]
+mod columns;
+#[cfg(test)]
 mod placed;
 #[cfg(test)]
 mod refused;

@@ -1,6 +1,9 @@
 //! Fragments as plain data, and what they give.
 use mysql_float_literal::Double;
-use mysql_fragments::{Fragment, Fragments, FragmentsError, Item, Keyword, bind_fragments};
+use mysql_fragments::{
+    ColumnAssignment, Fragment, Fragments, FragmentsError, Item, Keyword, bind_fragments,
+};
+use mysql_values::bytes::Bytes;
 use mysql_values::value::Value;
 use std::alloc::{AllocError, Global};
 
@@ -9,6 +12,7 @@ use std::alloc::{AllocError, Global};
 pub(crate) enum PlainItem {
     Null,
     Int(i64),
+    Text(&'static [u8]),
     Float(u32),
     Decimal(&'static [u8]),
     // The bits of a double.
@@ -26,12 +30,18 @@ pub(crate) enum Plain {
     Identifier(&'static [u8]),
     Qualified(&'static [&'static [u8]]),
     Keyword(&'static [u8]),
+    Identifiers(&'static [&'static [&'static [u8]]]),
+    Assignments(&'static [(&'static [&'static [u8]], PlainItem)]),
 }
 
 fn item(alloc: Global, plain: PlainItem) -> Result<Item, AllocError> {
     match plain {
         PlainItem::Null => Ok(Item::Value(Value::NULL)),
         PlainItem::Int(number) => Ok(Item::Value(Value::Int(number))),
+        PlainItem::Text(text) => {
+            let text = Bytes::from(Vec::from_slice(alloc, text)?);
+            Ok(Item::Value(Value::Bytes(text)))
+        }
         PlainItem::Float(bits) => Ok(Item::Value(Value::Float(bits))),
         PlainItem::Decimal(text) => Ok(Item::Decimal(Vec::from_slice(alloc, text)?)),
         PlainItem::Double(bits) => match Double::from_bits(bits) {
@@ -65,6 +75,27 @@ fn names(alloc: Global, plain: &[&[u8]]) -> Result<Vec<Vec<u8>>, AllocError> {
     Ok(names)
 }
 
+fn columns(alloc: Global, plain: &[&[&[u8]]]) -> Result<Vec<Vec<Vec<u8>>>, AllocError> {
+    let mut columns = Vec::new(alloc);
+    for column in plain {
+        columns.push(names(alloc, *column)?)?;
+    }
+    Ok(columns)
+}
+
+fn assignments(
+    alloc: Global,
+    plain: &[(&[&[u8]], PlainItem)],
+) -> Result<Vec<ColumnAssignment>, AllocError> {
+    let mut assignments = Vec::new(alloc);
+    for (column, set_to) in plain {
+        let column = names(alloc, *column)?;
+        let item = item(alloc, *set_to)?;
+        assignments.push(ColumnAssignment { column, item })?;
+    }
+    Ok(assignments)
+}
+
 /// The fragment of plain data.
 pub(crate) fn fragment(alloc: Global, plain: Plain) -> Result<Fragment, AllocError> {
     match plain {
@@ -78,6 +109,8 @@ pub(crate) fn fragment(alloc: Global, plain: Plain) -> Result<Fragment, AllocErr
         Plain::Identifier(name) => Ok(Fragment::Identifier(Vec::from_slice(alloc, name)?)),
         Plain::Qualified(plain) => Ok(Fragment::Qualified(names(alloc, plain)?)),
         Plain::Keyword(word) => Ok(Fragment::Keyword(Keyword::new(alloc, word)?)),
+        Plain::Identifiers(plain) => Ok(Fragment::Identifiers(columns(alloc, plain)?)),
+        Plain::Assignments(plain) => Ok(Fragment::Assignments(assignments(alloc, plain)?)),
     }
 }
 

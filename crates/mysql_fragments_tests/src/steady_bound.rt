@@ -1,6 +1,8 @@
 //! Texts for any mode. The wanted texts are written by the rules of the MySQL Reference Manual,
 //! "Character Set Introducers", "Schema Object Names" and "Numeric Literals".
-use crate::steady_shared::Plain::{Decimal, Identifier, Qualified, Text, Texts};
+use crate::steady_shared::Plain::{
+    Assignments, Decimal, Identifier, Identifiers, Qualified, Text, Texts,
+};
 use crate::steady_shared::{Plain, steadily_bound};
 use std::alloc::Global;
 
@@ -21,6 +23,14 @@ const TEXTS: &[(&[u8], &[Plain], &[u8])] = &[
         b"a < ? AND b = ?",
         &[Decimal(b"-1.50"), Text(&[0xC3, 0xA9])],
         b"a < -1.50 AND b = _utf8mb4 0xC3A9",
+    ),
+    (
+        b"UPDATE t SET ? WHERE (?) = (1, 2)",
+        &[
+            Assignments(&[(&[b"a"], b"x"), (&[b"t", b"b"], b"\\")]),
+            Identifiers(&[&[b"c"], &[b"t", b"d"]]),
+        ],
+        b"UPDATE t SET `a` = _utf8mb4'x', `t`.`b` = _utf8mb4 0x5C WHERE (`c`, `t`.`d`) = (1, 2)",
     ),
 ];
 

@@ -1,5 +1,7 @@
 //! What is refused, in the order of the causes.
-use crate::steady_shared::Plain::{Decimal, Float, Identifier, Qualified, Text};
+use crate::steady_shared::Plain::{
+    Assignments, Decimal, Float, Identifier, Identifiers, Qualified, Text,
+};
 use crate::steady_shared::{Plain, steadily_bound};
 use mysql_fragments::{FragmentFault, FragmentsError, SteadyFragmentsError};
 use mysql_portable::portable::{Construct, Unportable};
@@ -48,6 +50,22 @@ const REFUSED: &[(&[u8], &[Plain], Refused)] = &[
         b"? ?",
         &[Qualified(&[b"a", &[0xC3, 0xA9]]), Identifier(b"\\a")],
         Refused::UnsteadyFragment(0),
+    ),
+    (
+        b"? ?",
+        &[
+            Identifiers(&[&[b"a"], &[b"b"]]),
+            Identifiers(&[&[b"a"], &[b"t", b"\\b"]]),
+        ],
+        Refused::UnsteadyFragment(1),
+    ),
+    (
+        b"? ?",
+        &[
+            Assignments(&[(&[b"a"], b"\\")]),
+            Assignments(&[(&[b"a"], b"x"), (&[b"b\\c"], b"x")]),
+        ],
+        Refused::UnsteadyFragment(1),
     ),
 ];
 

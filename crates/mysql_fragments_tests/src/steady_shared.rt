@@ -1,13 +1,14 @@
 //! Fragments as plain data, and what they give.
 use mysql_fragments::{
-    Fragment, Fragments, FragmentsError, Item, SteadyFragmentsError, bind_fragments_anywhere,
-    bind_fragments_in_any_mode,
+    ColumnAssignment, Fragment, Fragments, FragmentsError, Item, SteadyFragmentsError,
+    bind_fragments_anywhere, bind_fragments_in_any_mode,
 };
 use mysql_values::bytes::Bytes;
 use mysql_values::value::Value;
 use std::alloc::{AllocError, Global};
 
-/// A fragment as plain data: `Text` is the value of a text, `Texts` a list of such values.
+/// A fragment as plain data: `Text` is the value of a text, `Texts` a list of such values, and
+/// `Assignments` have such values.
 #[derive(Clone, Copy)]
 pub(crate) enum Plain {
     Text(&'static [u8]),
@@ -16,6 +17,8 @@ pub(crate) enum Plain {
     Decimal(&'static [u8]),
     Identifier(&'static [u8]),
     Qualified(&'static [&'static [u8]]),
+    Identifiers(&'static [&'static [&'static [u8]]]),
+    Assignments(&'static [(&'static [&'static [u8]], &'static [u8])]),
 }
 
 fn text_value(alloc: Global, text: &[u8]) -> Result<Value, AllocError> {
@@ -38,6 +41,27 @@ fn names(alloc: Global, plain: &[&[u8]]) -> Result<Vec<Vec<u8>>, AllocError> {
     Ok(names)
 }
 
+fn columns(alloc: Global, plain: &[&[&[u8]]]) -> Result<Vec<Vec<Vec<u8>>>, AllocError> {
+    let mut columns = Vec::new(alloc);
+    for column in plain {
+        columns.push(names(alloc, *column)?)?;
+    }
+    Ok(columns)
+}
+
+fn assignments(
+    alloc: Global,
+    plain: &[(&[&[u8]], &[u8])],
+) -> Result<Vec<ColumnAssignment>, AllocError> {
+    let mut assignments = Vec::new(alloc);
+    for (column, text) in plain {
+        let column = names(alloc, *column)?;
+        let item = Item::Value(text_value(alloc, *text)?);
+        assignments.push(ColumnAssignment { column, item })?;
+    }
+    Ok(assignments)
+}
+
 fn fragment(alloc: Global, plain: Plain) -> Result<Fragment, AllocError> {
     match plain {
         Plain::Text(text) => Ok(Fragment::Value(text_value(alloc, text)?)),
@@ -46,6 +70,8 @@ fn fragment(alloc: Global, plain: Plain) -> Result<Fragment, AllocError> {
         Plain::Decimal(text) => Ok(Fragment::Decimal(Vec::from_slice(alloc, text)?)),
         Plain::Identifier(name) => Ok(Fragment::Identifier(Vec::from_slice(alloc, name)?)),
         Plain::Qualified(plain) => Ok(Fragment::Qualified(names(alloc, plain)?)),
+        Plain::Identifiers(plain) => Ok(Fragment::Identifiers(columns(alloc, plain)?)),
+        Plain::Assignments(plain) => Ok(Fragment::Assignments(assignments(alloc, plain)?)),
     }
 }
 
