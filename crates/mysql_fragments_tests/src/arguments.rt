@@ -1,9 +1,11 @@
 //! Fragments that arguments make. The wanted texts are written by the rules of the MySQL Reference
-//! Manual, "Schema Object Names", "Numeric Literals" and "Row Subqueries".
+//! Manual, "Schema Object Names", "Numeric Literals", "Row Subqueries", "INSERT Statement" and
+//! "UPDATE Statement".
 use mysql_fragments::{FragmentsError, bind_fragments};
 use mysql_params_core::params::ToParamsError;
 use mysql_to_fragments::{
-    Decimal, DoubleOf, Identifier, ListOf, Qualified, RowsOf, ToFragments, Word,
+    AssignmentsOf, Decimal, DoubleOf, Identifier, Identifiers, ListOf, Qualified, RowsOf,
+    ToFragments, Word,
 };
 use mysql_values::value::convert::ToValueError;
 use std::alloc::Global;
@@ -75,6 +77,26 @@ fn names_and_a_keyword(rt: HostRuntime) {
         b"TABLE :table ORDER BY :column :way",
         &arguments,
         b"TABLE `db.x`.`t` ORDER BY `a``b` DESC",
+    );
+    assert!(rt; same);
+}
+
+#[test]
+fn columns_and_assignments(rt: HostRuntime) {
+    let a: [&[u8]; 1] = [b"a"];
+    let b: [&[u8]; 2] = [b"t", b"b`"];
+    let columns = [a.as_slice(), b.as_slice()];
+    let changes = [(a.as_slice(), "x"), (b.as_slice(), "y")];
+    let arguments = (
+        ("columns", Identifiers(columns.as_slice())),
+        ("changes", AssignmentsOf(changes.as_slice())),
+    );
+    let same = arguments_give(
+        rt.alloc(),
+        b"INSERT INTO t (:columns) VALUES (1, 2) ON DUPLICATE KEY UPDATE :changes",
+        &arguments,
+        b"INSERT INTO t (`a`, `t`.`b```) VALUES (1, 2) \
+          ON DUPLICATE KEY UPDATE `a` = 'x', `t`.`b``` = 'y'",
     );
     assert!(rt; same);
 }
@@ -185,6 +207,10 @@ fn durations_that_are_too_long_are_refused(rt: HostRuntime) {
     assert!(rt; alone);
     let listed = is_too_long(rt.alloc(), &(("a", ListOf(list.as_slice())),));
     assert!(rt; listed);
+    let a: [&[u8]; 1] = [b"a"];
+    let changes = [(a.as_slice(), Duration::from_secs(1)), (a.as_slice(), long)];
+    let assigned = is_too_long(rt.alloc(), &(("a", AssignmentsOf(changes.as_slice())),));
+    assert!(rt; assigned);
     let in_a_row = is_too_long(rt.alloc(), &(("a", RowsOf(rows.as_slice())),));
     assert!(rt; in_a_row);
 }

@@ -1,17 +1,17 @@
-//! Queries with fragments in their places: lists, rows, exact numbers, doubles, identifiers and
-//! keywords, and what makes these of arguments. What a user needs of `mysql_fragments`,
-//! `mysql_to_fragments` and `mysql_float_literal`, handed on by name.
+//! Queries with fragments in their places: lists, rows, exact numbers, doubles, identifiers,
+//! columns, assignments and keywords, and what makes these of arguments. What a user needs of
+//! `mysql_fragments`, `mysql_to_fragments` and `mysql_float_literal`, handed on by name.
 
 pub use mysql_float_literal::Double;
 pub use mysql_fragments::{
-    ExpandedQuery, Fragment, FragmentFault, FragmentRef, Fragments, FragmentsError, Item, Keyword,
-    RowsRef, SteadyFragmentsError, bind_borrowed_fragments, bind_borrowed_fragments_into,
-    bind_fragments, bind_fragments_anywhere, bind_fragments_in, bind_fragments_in_any_mode,
-    bind_wide_borrowed_fragments, bind_wide_borrowed_fragments_into, bind_wide_fragments,
-    bind_wide_fragments_anywhere, bind_wide_fragments_in, bind_wide_fragments_in_any_mode,
-    expanded_query, expanded_query_in, expanded_wide_query_in,
+    ColumnAssignment, ExpandedQuery, Fragment, FragmentFault, FragmentRef, Fragments,
+    FragmentsError, Item, Keyword, RowsRef, SteadyFragmentsError, bind_borrowed_fragments,
+    bind_borrowed_fragments_into, bind_fragments, bind_fragments_anywhere, bind_fragments_in,
+    bind_fragments_in_any_mode, bind_wide_borrowed_fragments, bind_wide_borrowed_fragments_into,
+    bind_wide_fragments, bind_wide_fragments_anywhere, bind_wide_fragments_in,
+    bind_wide_fragments_in_any_mode, expanded_query, expanded_query_in, expanded_wide_query_in,
 };
 pub use mysql_to_fragments::{
-    Decimal, DoubleOf, Identifier, ListOf, Qualified, RowsOf, ToFragment, ToFragments, ToItem,
-    ToRow, Word,
+    AssignmentsOf, Decimal, DoubleOf, Identifier, Identifiers, ListOf, Qualified, RowsOf,
+    ToFragment, ToFragments, ToItem, ToRow, Word,
 };

@@ -15,8 +15,8 @@
 //! refused for nothing but memory. [`run`] is the program, with its commands `names` and `bind`,
 //! for any reader and writer, and [`words_of`] has its words.
 //!
-//! [`fragments`] bind also lists, rows, exact numbers, doubles, identifiers and keywords, and make
-//! these of arguments.
+//! [`fragments`] bind also lists, rows, exact numbers, doubles, identifiers, columns, assignments
+//! and keywords, and make these of arguments.
 #![tactic(auto)]
 
 pub mod fixed_query;

@@ -1,11 +1,11 @@
 -- What arguments say as items, as rows and as fragments, or the duration that is too long for a
 -- value. A type of a caller's own names what it says.
-use Rattle.std.specs.Prelude.{List, [], ◌∷◌, ◌++◌, Result, Ok, Err, fold, if◌then◌else◌, to_bits}
+use Rattle.std.specs.Prelude.{ℕ, List, [], ◌∷◌, ◌++◌, Result, Ok, Err, fold, if◌then◌else◌, to_bits}
 use Rattle.std.specs.Float.{binary64, float_is_finite}
 use Rattle.std.specs.Float.Ieee.{Float}
 use Rattle.std.specs.declared.time.Duration.{Duration}
 use Rattle.mysql_value_core.specs.declared.value.Value.TheVariants.{Double}
-use Rattle.mysql_to_fragments.specs.FragmentContent.{ItemContent, value_item, number_item, double_item, FragmentContent, value, number, double}
+use Rattle.mysql_to_fragments.specs.FragmentContent.{ItemContent, value_item, number_item, double_item, AssignmentContent, FragmentContent, value, number, double}
 
 -- an item, or the duration that is too long for its value
 abbrev pub SaidItem : Type 0
@@ -15,6 +15,10 @@ SaidItem = Result ItemContent Duration
 abbrev pub SaidRow : Type 0
 SaidRow = Result (List ItemContent) Duration
 
+-- an assignment, or the duration that is too long for its value
+abbrev pub SaidAssignment : Type 0
+SaidAssignment = Result AssignmentContent Duration
+
 -- a fragment, or the first duration in it that is too long
 abbrev pub SaidFragment : Type 0
 SaidFragment = Result FragmentContent Duration
@@ -23,6 +27,10 @@ SaidFragment = Result FragmentContent Duration
 abbrev pub made_of : {X Y : Type 0} → (X → Y) → Result X Duration → Result Y Duration
 made_of make (Ok said) = Ok (make said)
 made_of make (Err duration) = Err duration
+
+-- the assignment of what is said to the column of these names
+abbrev pub said_of_column : List (List ℕ) → SaidItem → SaidAssignment
+said_of_column names said = made_of (λ item. (names, item)) said
 
 -- what is said so far, and one more; a refusal stays
 abbrev pub with_one : {X : Type 0} → Result (List X) Duration → Result X Duration

@@ -1,10 +1,10 @@
 //! What makes a fragment.
-ghost use Rattle.std.specs.Prelude.{◌≡◌, Ok, IfOk, ⊤};
+ghost use Rattle.std.specs.Prelude.{◌≡◌, Ok, IfOk, map, ⊤};
 ghost use Rattle.mysql_values.specs.Answer.{IsAnswer};
 ghost use Rattle.mysql_values.specs.ValueOf.{too_long_duration};
 ghost use Rattle.mysql_params_core.specs.Names.{names_of};
 ghost use Rattle.mysql_params_core.specs.Referents.{referents};
-ghost use Rattle.mysql_to_fragments.specs.FragmentContent.{content_of, identifier, keyword, qualified};
+ghost use Rattle.mysql_to_fragments.specs.FragmentContent.{columns_content, content_of, identifier, identifiers, keyword, qualified};
 ghost use Rattle.mysql_to_fragments.specs.Arguments.{SaidFragment, alone, made_of};
 
 use crate::item::ToItem;
@@ -12,8 +12,9 @@ use mysql_fragments::{Fragment, Item, Keyword};
 use mysql_values::value::convert::ToValueError;
 use std::alloc::{AllocError, Global};
 
-/// What makes a fragment: what makes an item, as a value does; [`ListOf`](crate::ListOf) and
-/// [`RowsOf`](crate::RowsOf); [`Identifier`], [`Qualified`] and [`Word`]; a type of a caller's own.
+/// What makes a fragment: what makes an item, as a value does; [`ListOf`](crate::ListOf),
+/// [`RowsOf`](crate::RowsOf) and [`AssignmentsOf`](crate::AssignmentsOf); [`Identifier`],
+/// [`Qualified`], [`Identifiers`] and [`Word`]; a type of a caller's own.
 pub trait ToFragment {
     // what the fragment says, or the first duration in it that is too long for a value
     ghost said: { Self → SaidFragment };
@@ -60,8 +61,32 @@ impl<'a> ToFragment for Qualified<'a> {
     }
 }
 
-// Copies of the names.
-fn copies(alloc: Global, names: &[&[u8]]) -> Result<Vec<Vec<u8>>, AllocError>
+/// Columns with `, ` between them, each as a [`Qualified`]: for `INSERT INTO t (:columns)`.
+#[derive(Clone, Copy)]
+pub struct Identifiers<'a>(pub &'a [&'a [&'a [u8]]]);
+
+impl<'a> ToFragment for Identifiers<'a> {
+    ghost said = { λ columns. Ok (identifiers (map referents (referents columns.0.now))) };
+
+    fn to_fragment(&self, alloc: Global) -> Result<Fragment, ToValueError> {
+        Ok(Fragment::Identifiers(copies_of_columns(alloc, self.0)?))
+    }
+}
+
+// Copies of the names of the columns.
+fn copies_of_columns(alloc: Global, columns: &[&[&[u8]]]) -> Result<Vec<Vec<Vec<u8>>>, AllocError>
+    ensures { IfOk result (λ copied.
+        columns_content copied.items ≡ map referents (referents columns.now)) }
+{
+    let mut copied = Vec::new(alloc);
+    for names in columns {
+        copied.push(copies(alloc, *names)?)?;
+    }
+    Ok(copied)
+}
+
+/// Copies of the names.
+pub(crate) fn copies(alloc: Global, names: &[&[u8]]) -> Result<Vec<Vec<u8>>, AllocError>
     ensures { IfOk result (λ copies. names_of copies.items ≡ referents names.now) }
 {
     let mut copies = Vec::new(alloc);

@@ -4,6 +4,7 @@
 //! is what has a value, or a wrapper of this crate, or a type of a caller's own.
 #![tactic(auto)]
 
+mod assignments;
 mod fragment;
 mod item;
 mod list;
@@ -12,7 +13,8 @@ mod pairs;
 mod rows;
 mod tuples;
 
-pub use fragment::{Identifier, Qualified, ToFragment, Word};
+pub use assignments::AssignmentsOf;
+pub use fragment::{Identifier, Identifiers, Qualified, ToFragment, Word};
 pub use item::{Decimal, DoubleOf, ToItem};
 pub use list::ListOf;
 pub use pairs::ToFragments;
