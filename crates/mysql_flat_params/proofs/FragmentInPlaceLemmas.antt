@@ -1,9 +1,9 @@
 -- What is kept of a fragment where it lies says a fragment, and what is read says the same.
-use Rattle.std.specs.Prelude.{Ok, Option, ⊤}
+use Rattle.std.specs.Prelude.{IfSome, Ok, Option, Some, None, ⊤}
 use Rattle.std.specs.Borrow.{Bor}
 use Rattle.std.specs.Global.{Vec}
 use Rattle.std.specs.Simd.{first_chunks}
-use Rattle.std.proofs.Common.{◌≡◌, ◌≢◌, ◌⊎◌, inl, inr, ℕ, zero, suc, ◌+◌, ◌*◌, ◌<◌, ◌≤◌, List, [], ◌∷◌, ◌++◌, map, length, take, drop, refl, sym, ap, ◌∙◌, arith, ne_eqb}
+use Rattle.std.proofs.Common.{◌≡◌, ◌≢◌, ◌⊎◌, inl, inr, ℕ, zero, suc, ◌+◌, ◌*◌, ◌<◌, ◌≤◌, List, [], ◌∷◌, ◌++◌, map, ◌-◌, get_or, length, subst, take, drop, refl, sym, ap, ◌∙◌, arith, ne_eqb}
 use Rattle.std.proofs.lemmas.List.{length-drop}
 use Rattle.std.proofs.lemmas.Nat.{same_from_place}
 use Rattle.std.proofs.lemmas.Simd.{map-map}
@@ -19,11 +19,13 @@ use Rattle.mysql_fragments.specs.declared.fragment.Fragment.{Fragment}
 use Rattle.mysql_fragments.specs.declared.fragment_ref.FragmentRef.TheVariants as borrowed
 use Rattle.mysql_fragments.proofs.SaidExistLemmas.{one_said}
 use Rattle.mysql_flat_params.specs.FiniteDouble.{fragment_of_value}
-use Rattle.mysql_flat_params.specs.FlatFragments.{map_form, read_all, read_fragment_of, read_items}
+use Rattle.mysql_flat_params.specs.FlatFragments.{map_form, read_all, read_fragment, read_fragment_of, read_items}
 use Rattle.mysql_flat_params.specs.FormInPlace.{IsKeptAs, cell_content, rows_content}
 use Rattle.mysql_flat_params.specs.FragmentContent.{content_of, item_content, items_content, list, rows}
+use Rattle.mysql_flat_params.specs.declared.fragment_in_place.FragmentInPlace.{FragmentInPlace}
 use Rattle.mysql_flat_params.specs.declared.fragment_in_place.FragmentInPlace.TheVariants as kept
 use Rattle.mysql_flat_params.specs.declared.rows_in_place.RowsInPlace.{RowsInPlace}
+use Rattle.mysql_flat_params.proofs.FragmentsFormLemmas.{fragment_typed}
 
 lent : {X : Type 0} → List X → Bor (List X)
 lent items = record { ref_ptr = (0, 0); now = items }
@@ -94,7 +96,7 @@ one_chunk_more width (suc count) xs more e w =
 
 -- a number that is none of this library's own types is that of a value
 module _ (place position flags : ℕ) (bytes : List ℕ) where
-  pub value_typed : (n : ℕ) → (n < 128) ⊎ (133 < n) → read_fragment_of place position n flags bytes
+  pub value_typed : (n : ℕ) → (n < 128) ⊎ (135 < n) → read_fragment_of place position n flags bytes
       ≡ map_form fragment_of_value (read_of_type place position n (column_type n) (is_unsigned_parameter flags) bytes)
   value_typed n apart =
       rw (ne_eqb n 128 (other 128 (omega arith) (omega arith)))
@@ -102,9 +104,11 @@ module _ (place position flags : ℕ) (bytes : List ℕ) where
       (rw (ne_eqb n 130 (other 130 (omega arith) (omega arith)))
       (rw (ne_eqb n 131 (other 131 (omega arith) (omega arith)))
       (rw (ne_eqb n 132 (other 132 (omega arith) (omega arith)))
-      (rw (ne_eqb n 133 (other 133 (omega arith) (omega arith))) refl)))))
+      (rw (ne_eqb n 133 (other 133 (omega arith) (omega arith)))
+      (rw (ne_eqb n 134 (other 134 (omega arith) (omega arith)))
+      (rw (ne_eqb n 135 (other 135 (omega arith) (omega arith))) refl)))))))
     where
-      other : (k : ℕ) → 128 ≤ k → k ≤ 133 → n ≢ k
+      other : (k : ℕ) → 128 ≤ k → k ≤ 135 → n ≢ k
       other k low high e = elim apart [ inl below ↦ omega (arith, below, e, low) | inr above ↦ omega (arith, above, e, high) ]
 
   -- what a list and rows of values are
@@ -120,12 +124,23 @@ module _ (place position flags : ℕ) (bytes : List ℕ) where
       ap (λ k. read_fragment_of place position k flags bytes) is ∙ (ap (map_form rows) read ∙ ap (λ c. Ok (c, rest)) (rows_say r said h))
 
   -- a value that is refused
-  pub value_refused : (n : ℕ) (refusal : Option FormRefusal) → (n < 128) ⊎ (133 < n) →
+  pub value_refused : (n : ℕ) (refusal : Option FormRefusal) → (n < 128) ⊎ (135 < n) →
       IsExpectedRefusal (read_of_type place position n (column_type n) (is_unsigned_parameter flags) bytes) ⊥ refusal →
       IsExpectedRefusal (read_fragment_of place position n flags bytes) ⊤ refusal
   value_refused n refusal apart h =
       refusal_expected_too (read_of_type place position n (column_type n) (is_unsigned_parameter flags) bytes) (read_fragment_of place position n flags bytes) ⊥ ⊤ refusal
       (λ why e. value_typed n apart ∙ ap (map_form fragment_of_value) e) (λ _. tt) h
+
+-- a list or rows that are kept after a type and flags are what is read of them
+pub kept_read : (place position : ℕ) (bytes rest : List ℕ) (read : Option FragmentInPlace) (one : FragmentInPlace) → 2 ≤ length bytes → read ≡ Some one →
+    IfSome read (λ each. (said : Fragment) × IsKeptAs each said
+    × ((flags : ℕ) → read_fragment_of place position (get_or bytes 0 0) flags (take (length bytes - 2) (drop 2 bytes)) ≡ Ok (content_of said, rest))) →
+    (said : Fragment) × IsKeptAs one said × (read_fragment place position bytes ≡ Ok (content_of said, rest))
+kept_read place position bytes rest None one two is h = cc
+kept_read place position bytes rest (Some each) one two is h =
+    let same : each ≡ one = cc in
+    subst (λ z. (said : Fragment) × IsKeptAs z said × (read_fragment place position bytes ≡ Ok (content_of said, rest))) same
+    (h.0, h.1, fragment_typed place position bytes two ∙ h.2 (get_or bytes 1 0))
 
 -- rows that are lent are the same rows
 pub rows_lent : (r : RowsInPlace) (b : RowsRef) → b.cells.now ≡ r.cells.items → b.width ≡ r.width →

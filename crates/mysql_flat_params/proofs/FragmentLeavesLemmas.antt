@@ -7,7 +7,7 @@ use Rattle.mysql_wire_part.specs.Lenenc.{read_lenenc}
 use Rattle.mysql_fragments.specs.GivenFragments.{GivenFragments}
 use Rattle.mysql_flat_params.specs.FlatForm.{FormRefusal, FormReading, read_name, read_value}
 use Rattle.mysql_flat_params.proofs.LeavesLemmas.{Leaves, leaves_lenenc, leaves_value, leaves_in}
-use Rattle.mysql_flat_params.specs.FlatFragments.{map_form, and_then_form, read_count, read_each, read_all, read_item, read_items, read_keyword, read_fragment, read_parameter, fragment_unless, name_refusal, number_type, list_type, rows_type, identifier_type, qualified_type, keyword_type}
+use Rattle.mysql_flat_params.specs.FlatFragments.{map_form, and_then_form, read_count, read_each, read_all, read_item, read_items, read_names, read_assignment, read_keyword, read_fragment, read_parameter, fragment_unless, name_refusal, number_type, list_type, rows_type, identifier_type, qualified_type, keyword_type, identifiers_type, assignments_type}
 
 leaves_if : {X : Type 0} (n : ℕ) (b : Bool) (x y : FormReading X) → Leaves n x → Leaves n y → Leaves n (if b then x else y)
 leaves_if n true x y hx hy = hx
@@ -75,6 +75,14 @@ module _ (place position : ℕ) where
   leaves_items : (bytes : List ℕ) → Leaves (length bytes) (read_items place position bytes)
   leaves_items bytes = leaves_all (read_item place position) leaves_item place position bytes
 
+  leaves_names : (bytes : List ℕ) → Leaves (length bytes) (read_names place position bytes)
+  leaves_names bytes = leaves_all (read_name place position) (λ b. leaves_name place position b) place position bytes
+
+  leaves_assignment : (bytes : List ℕ) → Leaves (length bytes) (read_assignment place position bytes)
+  leaves_assignment bytes =
+      leaves_then (length bytes) (read_names place position bytes) _ (leaves_names bytes)
+      (λ names rest. leaves_map (length rest) _ (read_item place position rest) (leaves_item rest))
+
   leaves_keyword : (bytes : List ℕ) → Leaves (length bytes) (read_keyword place position bytes)
   leaves_keyword bytes = leaves_map (length bytes) _ (read_name place position bytes) (leaves_name place position bytes)
 
@@ -88,11 +96,14 @@ module _ (place position : ℕ) where
       (after_type type flags bytes _ (leaves_map (length bytes) _ _ (leaves_all (read_items place position) leaves_items place position bytes)))
       (leaves_if _ (type == identifier_type) _ _ (after_type type flags bytes _ (leaves_map (length bytes) _ _ (leaves_name place position bytes)))
       (leaves_if _ (type == qualified_type) _ _
-      (after_type type flags bytes _
-      (leaves_map (length bytes) _ _ (leaves_all (read_name place position) (λ b. leaves_name place position b) place position bytes)))
+      (after_type type flags bytes _ (leaves_map (length bytes) _ _ (leaves_names bytes)))
       (leaves_if _ (type == keyword_type) _ _ (after_type type flags bytes _ (leaves_map (length bytes) _ _ (leaves_keyword bytes)))
+      (leaves_if _ (type == identifiers_type) _ _
+      (after_type type flags bytes _ (leaves_map (length bytes) _ _ (leaves_all (read_names place position) leaves_names place position bytes)))
+      (leaves_if _ (type == assignments_type) _ _
+      (after_type type flags bytes _ (leaves_map (length bytes) _ _ (leaves_all (read_assignment place position) leaves_assignment place position bytes)))
       (leaves_map (length (type ∷ flags ∷ bytes)) _ (read_value place position (type ∷ flags ∷ bytes))
-      (leaves_typed place position type flags bytes)))))))
+      (leaves_typed place position type flags bytes)))))))))
 
   leaves_unless : (refusal : Option FormRefusal) (name bytes : List ℕ) → Leaves (length bytes) (fragment_unless refusal place position name bytes)
   leaves_unless (Some e) name bytes = tt

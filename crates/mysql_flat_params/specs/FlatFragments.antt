@@ -2,7 +2,7 @@
 -- the flat form of parameters (FlatForm.antt): each as its name, a length-encoded string (of no
 -- bytes: by position); a byte, the number of a type; a byte of flags; and what a parameter of this
 -- type has. A column type has its value in binary form, as there; a finite float or double is a
--- double here, which is written as a number. Six numbers are types of this
+-- double here, which is written as a number. Eight numbers are types of this
 -- library's own, for what isn't one value: no column type has a number from 21 to 241
 -- (ColumnNumbers.antt), and these stand in between, since the protocol took new ones at both ends.
 -- Their flags say nothing. A count is four bytes, least first ("Protocol::FixedLengthInteger"), so
@@ -15,7 +15,7 @@ use Rattle.mysql_flat_params.specs.FlatForm.{FormRefusal, FormReading, form_end,
 use Rattle.mysql_fragments.specs.GivenFragments.{GivenFragments, named, positional}
 use Rattle.mysql_fragments.specs.declared.fragment.Fragment.{Fragment}
 use Rattle.mysql_flat_params.specs.FiniteDouble.{item_of_value, fragment_of_value}
-use Rattle.mysql_flat_params.specs.FragmentContent.{ItemContent, number_item, FragmentContent, number, list, rows, identifier, qualified, keyword, content_of}
+use Rattle.mysql_flat_params.specs.FragmentContent.{ItemContent, number_item, AssignmentContent, FragmentContent, number, list, rows, identifier, qualified, keyword, identifiers, assignments, content_of}
 use Rattle.mysql_flat_params.specs.Keywords.{listed_keyword}
 
 -- ---- the types of this library's own
@@ -43,6 +43,15 @@ qualified_type = 132
 -- a keyword: its text, as a length-encoded string
 abbrev pub keyword_type : ℕ
 keyword_type = 133
+
+-- identifiers: the count of them, and each as a qualified identifier has its names
+abbrev pub identifiers_type : ℕ
+identifiers_type = 134
+
+-- assignments: the count of them, and each as the names of its column, as a qualified identifier
+-- has them, and its item, as a list has it
+abbrev pub assignments_type : ℕ
+assignments_type = 135
 
 -- ---- readings
 
@@ -91,6 +100,15 @@ read_item place position (type ∷ flags ∷ bytes) = read_item_of place positio
 abbrev pub read_items : (place position : ℕ) → List ℕ → FormReading (List ItemContent)
 read_items place position bytes = read_all place position (read_item place position) bytes
 
+-- the names of a qualified identifier or of a column
+abbrev pub read_names : (place position : ℕ) → List ℕ → FormReading (List (List ℕ))
+read_names place position bytes = read_all place position (read_name place position) bytes
+
+-- an assignment: the names of its column, and its item
+abbrev pub read_assignment : (place position : ℕ) → List ℕ → FormReading AssignmentContent
+read_assignment place position bytes = and_then_form (read_names place position bytes)
+    (λ names rest. map_form (λ item. (names, item)) (read_item place position rest))
+
 -- a keyword, or one of no bytes if the text isn't one that a form may have
 abbrev pub read_keyword : (place position : ℕ) → List ℕ → FormReading (List ℕ)
 read_keyword place position bytes = map_form listed_keyword (read_name place position bytes)
@@ -104,10 +122,12 @@ read_fragment_of place position type flags bytes =
     else if type == rows_type
     then map_form rows (read_all place position (read_items place position) bytes)
     else if type == identifier_type then map_form identifier (read_name place position bytes)
-    else if type == qualified_type
-    then map_form qualified (read_all place position (read_name place position) bytes)
-    else if type == keyword_type
-    then map_form keyword (read_keyword place position bytes)
+    else if type == qualified_type then map_form qualified (read_names place position bytes)
+    else if type == keyword_type then map_form keyword (read_keyword place position bytes)
+    else if type == identifiers_type
+    then map_form identifiers (read_all place position (read_names place position) bytes)
+    else if type == assignments_type
+    then map_form assignments (read_all place position (read_assignment place position) bytes)
     else map_form fragment_of_value
     (read_of_type place position type (column_type type) (is_unsigned_parameter flags) bytes)
 

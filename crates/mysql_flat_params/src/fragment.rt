@@ -11,8 +11,8 @@ ghost use Rattle.mysql_flat_params.specs.FragmentContent.{content_of};
 use crate::double::double_in;
 use crate::form::{Spot, eat_name, eat_value_ref};
 use crate::form_error::FormError;
-use crate::fragment_parts::{eat_names, eat_text};
-use crate::items::{NUMBER, eat_items, eat_rows};
+use crate::fragment_parts::{eat_columns, eat_names, eat_text};
+use crate::items::{NUMBER, eat_assignments, eat_items, eat_rows};
 use crate::keywords::listed_keyword;
 use mysql_fragments::{Fragment, Keyword};
 use mysql_values::value::ValueRef;
@@ -28,7 +28,11 @@ const IDENTIFIER: u8 = 131;
 
 const QUALIFIED: u8 = 132;
 
-pub(crate) const KEYWORD: u8 = 133;
+const KEYWORD: u8 = 133;
+
+const IDENTIFIERS: u8 = 134;
+
+pub(crate) const ASSIGNMENTS: u8 = 135;
 
 /// The fragment at the front, with its type and its flags.
 pub(crate) fn eat_fragment(
@@ -74,6 +78,10 @@ fn eat_fragment_of(
         Ok(Fragment::Qualified(eat_names(alloc, spot, rest)?))
     } else if number == KEYWORD {
         Ok(Fragment::Keyword(eat_keyword(alloc, spot, rest)?))
+    } else if number == IDENTIFIERS {
+        Ok(Fragment::Identifiers(eat_columns(alloc, spot, rest)?))
+    } else if number == ASSIGNMENTS {
+        Ok(Fragment::Assignments(eat_assignments(alloc, spot, rest)?))
     } else {
         let value = eat_value_ref(spot, number, flags, rest)?;
         Ok(fragment_of(alloc, value)?)

@@ -15,7 +15,7 @@ ghost use Rattle.mysql_flat_params.specs.FormInPlace.{IsKeptAs, cell_content, ro
 use crate::double::double_in;
 use crate::form::{Spot, eat_value_ref};
 use crate::form_error::FormError;
-use crate::fragment::{KEYWORD, LIST, ROWS, eat_fragment};
+use crate::fragment::{ASSIGNMENTS, LIST, ROWS, eat_fragment};
 use crate::items::NUMBER;
 use crate::rows_in_place::RowsInPlace;
 use mysql_fragments::{Fragment, FragmentRef};
@@ -73,7 +73,7 @@ pub(crate) fn eat_in_place<'f>(
     let number = *number;
     let flags = *flags;
     let mut ahead = ParseBuf(bytes);
-    if number < NUMBER || number > KEYWORD {
+    if number < NUMBER || number > ASSIGNMENTS {
         let value = eat_value_ref(spot, number, flags, &mut ahead)?;
         *rest = ahead;
         return Ok(kept_value(value));

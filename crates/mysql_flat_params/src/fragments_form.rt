@@ -20,7 +20,7 @@ use std::collections::HashMap;
 /// The fragments that a form says, by position or by name, as its first parameter is; none by
 /// position for the empty form.
 ///
-/// The form is that of [`params_of_form`](crate::params_of_form), with six types more.
+/// The form is that of [`params_of_form`](crate::params_of_form), with eight types more.
 /// What follows their flags, which say nothing, is
 ///
 /// - for 128, an exact number, its text as a length-encoded string;
@@ -31,7 +31,10 @@ use std::collections::HashMap;
 /// - for 132, a qualified identifier, the count of its names in four bytes, and each as such a
 ///   string;
 /// - for 133, a keyword, its text as such a string. A text that is none of the keywords that a form
-///   may have becomes one of no bytes, which no call writes.
+///   may have becomes one of no bytes, which no call writes;
+/// - for 134, identifiers, the count of them in four bytes, and each as 132 has its names;
+/// - for 135, assignments, the count of them in four bytes, and each as a column, as 132 has its
+///   names, and an item, as a list has it.
 ///
 /// The parameters are read in order, up to the first that is refused, as `params_of_form` reads
 /// and refuses them. Nothing is allocated for a length or a count that the form only states. What

@@ -1,18 +1,18 @@
-//! Lists and rows.
+//! Lists, rows and assignments.
 ghost use Rattle.std.specs.Prelude.{◌≡◌, IfOk, ⊤, map};
 ghost use Rattle.mysql_wire_part.specs.Answer.{IsAnswer};
 ghost use Rattle.mysql_wire_part.specs.ParseBuf.{left};
 ghost use Rattle.mysql_values.specs.BorrowedValue.{owned};
 ghost use Rattle.mysql_flat_params.specs.FormErrors.{form_refusal};
 ghost use Rattle.mysql_flat_params.specs.FiniteDouble.{item_of_value};
-ghost use Rattle.mysql_flat_params.specs.FlatFragments.{read_all, read_item, read_item_of, read_items};
-ghost use Rattle.mysql_flat_params.specs.FragmentContent.{item_content, items_content};
+ghost use Rattle.mysql_flat_params.specs.FlatFragments.{read_all, read_assignment, read_item, read_item_of, read_items};
+ghost use Rattle.mysql_flat_params.specs.FragmentContent.{assignment_content, assignments_content, item_content, items_content};
 
 use crate::double::double_in;
 use crate::form::{Spot, eat_value_ref};
 use crate::form_error::FormError;
-use crate::fragment_parts::{eat_count, eat_text};
-use mysql_fragments::Item;
+use crate::fragment_parts::{eat_count, eat_names, eat_text};
+use mysql_fragments::{ColumnAssignment, Item};
 use mysql_values::value::ValueRef;
 use mysql_wire_part::ParseBuf;
 use std::alloc::{AllocError, Global};
@@ -37,6 +37,39 @@ pub(crate) fn eat_rows(
         count -= 1;
     }
     Ok(rows)
+}
+
+/// The assignments at the front.
+pub(crate) fn eat_assignments(
+    alloc: Global,
+    spot: Spot,
+    rest: &mut ParseBuf<'_>,
+) -> Result<Vec<ColumnAssignment>, FormError>
+    ensures { IsAnswer (λ read. (assignments_content read.items, left rest.new)) form_refusal
+        (read_all spot.place spot.position (read_assignment spot.place spot.position)
+        (left rest.old)) ⊤ result }
+{
+    let mut count = eat_count(spot, rest)?;
+    let mut assignments = Vec::new(alloc);
+    while count > 0 {
+        assignments.push(eat_assignment(alloc, spot, rest)?)?;
+        count -= 1;
+    }
+    Ok(assignments)
+}
+
+// The assignment at the front: the names of its column, and its item.
+fn eat_assignment(
+    alloc: Global,
+    spot: Spot,
+    rest: &mut ParseBuf<'_>,
+) -> Result<ColumnAssignment, FormError>
+    ensures { IsAnswer (λ read. (assignment_content read, left rest.new)) form_refusal
+        (read_assignment spot.place spot.position (left rest.old)) ⊤ result }
+{
+    let column = eat_names(alloc, spot, rest)?;
+    let item = eat_item(alloc, spot, rest)?;
+    Ok(ColumnAssignment { column, item })
 }
 
 /// The items at the front.

@@ -13,6 +13,20 @@ const TEXTS: &[(&[u8], &[u8], &[u8])] = &[
         b"\0\x81\0\x03\0\0\0\x01\0\x07\x80\0\x05-1.50\x06\0\0\x83\0\x01t",
         b"a IN (7, -1.50, NULL) AND `t`",
     ),
+    // The columns `a` and `t`.`b`.
+    (
+        b"INSERT INTO t (?) VALUES (1, 2)",
+        b"\0\x86\0\x02\0\0\0\x01\0\0\0\x01a\x02\0\0\0\x01t\x01b",
+        b"INSERT INTO t (`a`, `t`.`b`) VALUES (1, 2)",
+    ),
+    // `a` set to 1, `t`.`b` to -1.50, `c` to the text x, and `d` to the double 1.5.
+    (
+        b"UPDATE t SET ?",
+        b"\0\x87\0\x04\0\0\0\x01\0\0\0\x01a\x01\0\x01\
+            \x02\0\0\0\x01t\x01b\x80\0\x05-1.50\x01\0\0\0\x01c\xFD\0\x01x\
+            \x01\0\0\0\x01d\x05\0\0\0\0\0\0\0\xF8\x3F",
+        b"UPDATE t SET `a` = 1, `t`.`b` = -1.50, `c` = 'x', `d` = 1.5e0",
+    ),
     // The identifier `t` for `t`, and the number -3 for `a`.
     (b":a, :t", b"\x01t\x83\0\x01t\x01a\x01\0\xFD", b"-3, `t`"),
 ];

@@ -1,6 +1,7 @@
 //! Worked forms and the texts that they give. The forms are written by hand by the protocol and by
 //! the heading of `FlatFragments.antt`, the texts by the rules of the MySQL Reference Manual,
-//! "Schema Object Names", "Numeric Literals" and "Comparison Functions and Operators".
+//! "Schema Object Names", "Numeric Literals", "Comparison Functions and Operators", "INSERT
+//! Statement" and "UPDATE Statement".
 use crate::fragments_shared::answer;
 use crate::shared::same_in;
 use mysql_flat_params::{FragmentsOutcome, Outcome};
@@ -63,6 +64,19 @@ const TEXTS: &[(&[u8], &[u8], &[u8])] = &[
         b"FROM `db`.`t`",
     ),
     (b"ORDER BY a ?", b"\0\x85\0\x04DESC", b"ORDER BY a DESC"),
+    // The columns `a` and `t`.`b`.
+    (
+        b"t (?) VALUES",
+        b"\0\x86\0\x02\0\0\0\x01\0\0\0\x01a\x02\0\0\0\x01t\x01b",
+        b"t (`a`, `t`.`b`) VALUES",
+    ),
+    // `a` set to 1, `t`.`b` to -1.50, and `c` to the text it's.
+    (
+        b"SET ?;",
+        b"\0\x87\0\x03\0\0\0\x01\0\0\0\x01a\x01\0\x01\x02\0\0\0\x01t\x01b\x80\0\x05-1.50\
+            \x01\0\0\0\x01c\xfd\0\x04it's",
+        b"SET `a` = 1, `t`.`b` = -1.50, `c` = 'it\\'s';",
+    ),
     // By name, and with a value that has no sign.
     (
         b"(:i), :t",
@@ -111,11 +125,38 @@ const REFUSED: &[(&[u8], &[u8], FragmentsOutcome)] = &[
     ),
     (
         b"?",
-        b"\0\x86\0",
+        b"\0\x88\0",
         FragmentsOutcome::AsValues(Outcome::FormType {
             place: 0,
             position: 0,
-            number: 0x86,
+            number: 0x88,
+        }),
+    ),
+    // A count of two columns and one of them, and an assignment without its item.
+    (
+        b"?",
+        b"\0\x86\0\x02\0\0\0\x01\0\0\0\x01a",
+        FragmentsOutcome::AsValues(Outcome::FormEnd {
+            place: 0,
+            position: 0,
+        }),
+    ),
+    (
+        b"?",
+        b"\0\x87\0\x01\0\0\0\x01\0\0\0\x01a",
+        FragmentsOutcome::AsValues(Outcome::FormEnd {
+            place: 0,
+            position: 0,
+        }),
+    ),
+    // An assignment of an identifier.
+    (
+        b"?",
+        b"\0\x87\0\x01\0\0\0\x01\0\0\0\x01a\x83\0\x01b",
+        FragmentsOutcome::AsValues(Outcome::FormType {
+            place: 0,
+            position: 0,
+            number: 0x83,
         }),
     ),
     (
@@ -183,6 +224,39 @@ const REFUSED: &[(&[u8], &[u8], FragmentsOutcome)] = &[
         FragmentsOutcome::Fault {
             place: 1,
             fault: FragmentFault::EmptyName { part: 1 },
+        },
+    ),
+    // No columns, a column without names, no assignments, and one of what is no number.
+    (
+        b"?",
+        b"\0\x86\0\0\0\0\0",
+        FragmentsOutcome::Fault {
+            place: 0,
+            fault: FragmentFault::Empty,
+        },
+    ),
+    (
+        b"?",
+        b"\0\x86\0\x01\0\0\0\0\0\0\0",
+        FragmentsOutcome::Fault {
+            place: 0,
+            fault: FragmentFault::Empty,
+        },
+    ),
+    (
+        b"?",
+        b"\0\x87\0\0\0\0\0",
+        FragmentsOutcome::Fault {
+            place: 0,
+            fault: FragmentFault::Empty,
+        },
+    ),
+    (
+        b"?",
+        b"\0\x87\0\x02\0\0\0\x01\0\0\0\x01a\x06\0\x01\0\0\0\x01b\x80\0\x01x",
+        FragmentsOutcome::Fault {
+            place: 0,
+            fault: FragmentFault::Number { row: 0, item: 1 },
         },
     ),
     // No rows, a row without items, and rows of one and of two items.

@@ -315,8 +315,8 @@ pub extern "C" fn mysql_params_bind_template(
 /// Binds into the query the fragments that the form says, and writes the text to the front of the
 /// room: [`bind_fragments_into`](mysql_flat_params::bind_fragments_into).
 ///
-/// The form is that of [`mysql_params_bind`] with six types more, for an exact number, a list,
-/// rows, an identifier, a qualified one and a keyword
+/// The form is that of [`mysql_params_bind`] with eight types more, for an exact number, a list,
+/// rows, an identifier, a qualified one, a keyword, identifiers and assignments
 /// ([`form_fragments`](mysql_flat_params::form_fragments)). It returns the numbers of
 /// [`mysql_params_bind`], and after those for a query 17 (`Fault`) for a fragment that can't be
 /// written: then the report has its place, in `byte` the number of the fault, in `position` the row
