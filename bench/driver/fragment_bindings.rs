@@ -7,7 +7,8 @@ use crate::compared_sides::{Asked, Mode};
 use crate::differences::Differences;
 use crate::random::Random;
 use plain::all_fragments::{
-    self, DECIMAL, Fragment, Given, IDENTIFIER, Item, KEYWORD, KEYWORDS, LIST, QUALIFIED, ROWS,
+    self, ASSIGNMENTS, DECIMAL, Fragment, Given, IDENTIFIER, IDENTIFIERS, Item, KEYWORD, KEYWORDS,
+    LIST, Names, QUALIFIED, ROWS,
 };
 use plain::search::Table;
 
@@ -54,13 +55,13 @@ fn form(random: &mut Random, query: &[u8]) -> (Vec<u8>, Option<Given>) {
         });
         given.push((name, append_fragment(random, &mut form)));
     }
-    let bytes = [0xFB, 0xFF, 0xFC, 0xFE, 0, 1, 127, 128, 129, 130, 131, 132, 133, 134];
+    let bytes = [0xFB, 0xFF, 0xFC, 0xFE, 0, 1, 127, 128, 129, 130, 131, 132, 133, 134, 135, 136];
     is_faulty |= damage(random, &mut form, &bytes);
     (form, (!is_faulty).then_some(given))
 }
 
 fn append_fragment(random: &mut Random, form: &mut Vec<u8>) -> Fragment {
-    match random.below(12) {
+    match random.below(14) {
         0..=4 => Fragment::One(append_item(random, form)),
         5 | 6 => {
             append_type(random, form, LIST);
@@ -76,8 +77,18 @@ fn append_fragment(random: &mut Random, form: &mut Vec<u8>) -> Fragment {
         }
         10 => {
             append_type(random, form, QUALIFIED);
+            Fragment::Names(append_names(random, form))
+        }
+        11 => {
+            append_type(random, form, IDENTIFIERS);
             let count = append_count(random, form);
-            Fragment::Names((0..count).map(|_| append_text(random, form, random_name)).collect())
+            Fragment::Identifiers((0..count).map(|_| append_names(random, form)).collect())
+        }
+        12 => {
+            append_type(random, form, ASSIGNMENTS);
+            let count = append_count(random, form);
+            let assignment = |_| (append_names(random, form), append_item(random, form));
+            Fragment::Assignments((0..count).map(assignment).collect())
         }
         _ => {
             append_type(random, form, KEYWORD);
@@ -96,6 +107,11 @@ fn append_count(random: &mut Random, form: &mut Vec<u8>) -> usize {
     let count = if random.one_in(16) { 0 } else { 1 + random.below(MOST) };
     form.extend_from_slice(&(count as u32).to_le_bytes());
     count
+}
+
+fn append_names(random: &mut Random, form: &mut Vec<u8>) -> Names {
+    let count = append_count(random, form);
+    (0..count).map(|_| append_text(random, form, random_name)).collect()
 }
 
 fn append_item(random: &mut Random, form: &mut Vec<u8>) -> Item {

@@ -16,6 +16,8 @@ pub const ROWS: u8 = 130;
 pub const IDENTIFIER: u8 = 131;
 pub const QUALIFIED: u8 = 132;
 pub const KEYWORD: u8 = 133;
+pub const IDENTIFIERS: u8 = 134;
+pub const ASSIGNMENTS: u8 = 135;
 
 /// The keywords that bindings/README.md lists.
 pub const KEYWORDS: [&str; 33] = [
@@ -54,7 +56,7 @@ pub const KEYWORDS: [&str; 33] = [
     "LOCK IN SHARE MODE",
 ];
 
-/// What stands alone, in a list or in a row.
+/// What stands alone, in a list or a row, or is assigned.
 #[derive(Clone, Debug, PartialEq)]
 pub enum Item {
     Value(Value),
@@ -69,9 +71,15 @@ pub enum Fragment {
     List(Vec<Item>),
     Rows(Vec<Vec<Item>>),
     /// A name, or names of which each has the next.
-    Names(Vec<Vec<u8>>),
+    Names(Names),
     Keyword(Vec<u8>),
+    Identifiers(Vec<Names>),
+    /// Columns, and what they are set to.
+    Assignments(Vec<(Names, Item)>),
 }
+
+/// The names of an identifier, of which each has the next.
+pub type Names = Vec<Vec<u8>>;
 
 /// The names of a fault, from 1.
 pub const FAULTS: [&str; 10] = [
@@ -152,7 +160,7 @@ fn read_next(rest: &mut Rest, given: &Given) -> Result<(Vec<u8>, Fragment), Form
 
 fn read_fragment(rest: &mut Rest) -> Result<Fragment, FormError> {
     let column = match rest.form.get(rest.at) {
-        Some(column @ LIST..=KEYWORD) => *column,
+        Some(column @ LIST..=ASSIGNMENTS) => *column,
         _ => return Ok(Fragment::One(read_item(rest)?)),
     };
     let _type_and_flags = rest.number(2)?;
@@ -160,8 +168,13 @@ fn read_fragment(rest: &mut Rest) -> Result<Fragment, FormError> {
         LIST => Fragment::List(read_items(rest)?),
         ROWS => Fragment::Rows(counted(rest, read_items)?),
         IDENTIFIER => Fragment::Names(vec![text(rest)?]),
-        QUALIFIED => Fragment::Names(counted(rest, text)?),
-        _ => Fragment::Keyword(text(rest)?),
+        QUALIFIED => Fragment::Names(read_names(rest)?),
+        KEYWORD => Fragment::Keyword(text(rest)?),
+        IDENTIFIERS => Fragment::Identifiers(counted(rest, read_names)?),
+        _ => {
+            let assignment = |rest: &mut Rest| Ok((read_names(rest)?, read_item(rest)?));
+            Fragment::Assignments(counted(rest, assignment)?)
+        }
     })
 }
 
@@ -175,6 +188,10 @@ fn read_item(rest: &mut Rest) -> Result<Item, FormError> {
     }
     let _type_and_flags = rest.number(2)?;
     Ok(Item::Decimal(text(rest)?))
+}
+
+fn read_names(rest: &mut Rest) -> Result<Names, FormError> {
+    counted(rest, text)
 }
 
 fn text(rest: &mut Rest) -> Result<Vec<u8>, FormError> {
@@ -206,9 +223,8 @@ pub fn bind_anywhere<S: Search>(query: &[u8], given: &Given) -> Result<Vec<u8>, 
         return Err(bind_answer(&BindError::Unportable { number, position }));
     }
     let placed = placed::<S>(query, given)?;
-    let is_unsteady = |fragment: &Fragment| match fragment {
-        Fragment::Names(names) => names.iter().flatten().any(|byte| !is_steady(*byte)),
-        _ => false,
+    let is_unsteady = |fragment: &Fragment| {
+        names(fragment).into_iter().flatten().flatten().any(|byte| !is_steady(*byte))
     };
     if let Some(place) = placed.iter().position(|(_, fragment)| is_unsteady(fragment)) {
         return Err((UNSTEADY_FRAGMENT, Report { place, ..Report::default() }));
@@ -282,7 +298,18 @@ fn items(fragment: &Fragment) -> Vec<&Item> {
         Fragment::One(item) => vec![item],
         Fragment::List(items) => items.iter().collect(),
         Fragment::Rows(rows) => rows.iter().flatten().collect(),
-        Fragment::Names(_) | Fragment::Keyword(_) => Vec::new(),
+        Fragment::Assignments(assignments) => assignments.iter().map(|(_, item)| item).collect(),
+        Fragment::Names(_) | Fragment::Keyword(_) | Fragment::Identifiers(_) => Vec::new(),
+    }
+}
+
+/// The names of each identifier of a fragment.
+fn names(fragment: &Fragment) -> Vec<&Names> {
+    match fragment {
+        Fragment::Names(names) => vec![names],
+        Fragment::Identifiers(identifiers) => identifiers.iter().collect(),
+        Fragment::Assignments(assignments) => assignments.iter().map(|(names, _)| names).collect(),
+        _ => Vec::new(),
     }
 }
 
@@ -308,13 +335,35 @@ fn fault(fragment: &Fragment) -> Option<Fault> {
                 rows.find_map(|(row, items)| row_fault(row, items, first.len()))
             }
         },
-        Fragment::Names(names) if names.is_empty() => Some((EMPTY, 0, 0)),
-        Fragment::Names(names) => names.iter().enumerate().find_map(name_fault),
+        Fragment::Names(names) => names_fault(0, names),
         Fragment::Keyword(keyword) => {
             let is_listed = KEYWORDS.iter().any(|listed| listed.as_bytes() == keyword);
             (!is_listed).then_some((NO_KEYWORD, 0, 0))
         }
+        Fragment::Identifiers(_) | Fragment::Assignments(_) => columns_fault(fragment),
     }
+}
+
+/// The first fault of identifiers or assignments, of each its column's and then its item's. Names
+/// are counted through all columns.
+fn columns_fault(fragment: &Fragment) -> Option<Fault> {
+    let (columns, items) = (names(fragment), items(fragment));
+    if columns.is_empty() {
+        return Some((EMPTY, 0, 0));
+    }
+    columns.iter().enumerate().find_map(|(number, column)| {
+        let before = columns[..number].iter().map(|earlier| earlier.len()).sum();
+        let is_faulty = items.get(number).is_some_and(|item| has_number_fault(item));
+        names_fault(before, column).or(is_faulty.then_some((NUMBER, 0, number)))
+    })
+}
+
+/// The first fault of an identifier, of which the first name has this number in the fragment.
+fn names_fault(number: usize, names: &Names) -> Option<Fault> {
+    if names.is_empty() {
+        return Some((EMPTY, 0, 0));
+    }
+    (number..).zip(names).find_map(name_fault)
 }
 
 fn row_fault(row: usize, items: &[Item], width: usize) -> Option<Fault> {
@@ -328,8 +377,11 @@ fn row_fault(row: usize, items: &[Item], width: usize) -> Option<Fault> {
 }
 
 fn items_fault(row: usize, items: &[Item]) -> Option<Fault> {
-    let is_faulty = |item: &Item| matches!(item, Item::Decimal(text) if !is_decimal(text));
-    items.iter().position(is_faulty).map(|item| (NUMBER, row, item))
+    items.iter().position(has_number_fault).map(|item| (NUMBER, row, item))
+}
+
+fn has_number_fault(item: &Item) -> bool {
+    matches!(item, Item::Decimal(text) if !is_decimal(text))
 }
 
 /// Whether a text has at most one `-`, and then at most 65 digits with at most one point between
@@ -384,11 +436,17 @@ fn written(
                 let rows = rows.iter().map(|items| [b"(", &row(items)[..], b")"].concat());
                 rows.collect::<Vec<_>>().join(&b", "[..])
             }
-            Fragment::Names(names) => {
-                let names = names.iter().map(|name| quoted(name));
-                names.collect::<Vec<_>>().join(&b"."[..])
-            }
+            Fragment::Names(names) => identifier(names),
             Fragment::Keyword(keyword) => keyword.clone(),
+            Fragment::Identifiers(identifiers) => {
+                identifiers.iter().map(identifier).collect::<Vec<_>>().join(&b", "[..])
+            }
+            Fragment::Assignments(assignments) => {
+                let assignments = assignments
+                    .iter()
+                    .map(|(names, assigned)| [identifier(names), item(assigned)].join(&b" = "[..]));
+                assignments.collect::<Vec<_>>().join(&b", "[..])
+            }
         });
         copied = *end;
     }
@@ -416,6 +474,11 @@ fn append_number(text: &mut Vec<u8>, double: f64) {
     let end = written.iter().position(|byte| *byte == b'e').expect("an exponent");
     written[end - 1] = exact[count - 1];
     text.extend(written);
+}
+
+/// Names in backquotes, with points between them.
+fn identifier(names: &Names) -> Vec<u8> {
+    names.iter().map(|name| quoted(name)).collect::<Vec<_>>().join(&b"."[..])
 }
 
 /// A name in backquotes, each in it doubled.
