@@ -129,16 +129,22 @@ static void append_items(mysql_params_form *form, char *items)
     }
 }
 
+/* Cuts a text at its first `||`. Returns what stands behind that, or null if there is none. */
+static char *cut_at_bars(char *text)
+{
+    char *next = strstr(text, "||");
+    if (next == NULL)
+        return NULL;
+    *next = '\0';
+    return next + 2;
+}
+
 /* Appends the rows that stand between `||`. It cuts the text. */
 static bool append_rows(mysql_params_form *form, const char *name, char *rows)
 {
     mysql_params_begin_rows(form, name);
     while (rows != NULL) {
-        char *next = strstr(rows, "||");
-        if (next != NULL) {
-            *next = '\0';
-            next += 2;
-        }
+        char *next = cut_at_bars(rows);
         mysql_params_begin_row(form);
         append_items(form, rows);
         mysql_params_end_row(form);
@@ -147,19 +153,75 @@ static bool append_rows(mysql_params_form *form, const char *name, char *rows)
     return mysql_params_end_rows(form);
 }
 
-/* Appends a qualified identifier, whose two names stand before and after `|`. */
+/* Names that stand between `|`. */
+enum { MOST_NAMES = 4 };
+
+typedef struct names {
+    bytes text; /* all, with a zero byte after each */
+    const char *at[MOST_NAMES];
+    uint32_t count;
+} names;
+
+/* Takes the names of a text apart. Let go of the memory of their text. */
+static names read_names(const char *value)
+{
+    names them = {{NULL, 0}, {NULL}, 0};
+    append_text(&them.text, value);
+    for (char *name = (char *)them.text.at; name != NULL;) {
+        char *next = strchr(name, '|');
+        if (next != NULL)
+            *next++ = '\0';
+        if (them.count == MOST_NAMES)
+            stop("so many names are too many");
+        them.at[them.count++] = name;
+        name = next;
+    }
+    return them;
+}
+
+/* Appends a qualified identifier. */
 static bool append_qualified(mysql_params_form *form, const char *name, const char *value)
 {
-    bytes text = {NULL, 0};
-    append_text(&text, value);
-    char *second = strchr((char *)text.at, '|');
-    if (second == NULL)
-        stop("two names are wanted");
-    *second++ = '\0';
-    const char *const names[] = {(const char *)text.at, second};
-    bool fits = mysql_params_append_qualified(form, name, names, 2);
-    clear_bytes(&text);
+    names them = read_names(value);
+    bool fits = mysql_params_append_qualified(form, name, them.at, them.count);
+    clear_bytes(&them.text);
     return fits;
+}
+
+/* Appends the identifiers that stand between `||`; none of no text. It cuts the text. */
+static bool append_identifiers(mysql_params_form *form, const char *name, char *identifiers)
+{
+    mysql_params_begin_identifiers(form, name);
+    for (char *one = *identifiers == '\0' ? NULL : identifiers; one != NULL;) {
+        char *next = cut_at_bars(one);
+        names them = read_names(one);
+        if (them.count == 1)
+            mysql_params_append_identifier(form, NULL, them.at[0]);
+        else
+            mysql_params_append_qualified(form, NULL, them.at, them.count);
+        clear_bytes(&them.text);
+        one = next;
+    }
+    return mysql_params_end_identifiers(form);
+}
+
+/* Appends the assignments that stand between `||`, each a column, `=` and an item; none of no text. It cuts the text. */
+static bool append_assignments(mysql_params_form *form, const char *name, char *assignments)
+{
+    mysql_params_begin_assignments(form, name);
+    for (char *one = *assignments == '\0' ? NULL : assignments; one != NULL;) {
+        char *next = cut_at_bars(one), *item = strchr(one, '=');
+        if (item == NULL)
+            stop("an assignment without =");
+        *item++ = '\0';
+        names them = read_names(one);
+        if (them.count > 1)
+            mysql_params_begin_assignment(form, them.at, them.count);
+        append_value(form, them.at[0], item);
+        clear_bytes(&them.text);
+        one = next;
+    }
+    return mysql_params_end_assignments(form);
 }
 
 /* Appends an identifier or a keyword. */
@@ -188,13 +250,18 @@ static bool append_fragment(mysql_params_form *form, const char *name, const cha
         return append_rows(form, name, copy);
     if (begins(value, "qualified:"))
         return append_qualified(form, name, copy);
+    if (begins(value, "identifiers:"))
+        return append_identifiers(form, name, copy);
+    if (begins(value, "assignments:"))
+        return append_assignments(form, name, copy);
     return append_word(form, name, copy, begins(value, "keyword:"));
 }
 
 static bool append_value(mysql_params_form *form, const char *name, const char *value)
 {
     if (begins(value, "list:") || begins(value, "rows:") || begins(value, "identifier:") ||
-        begins(value, "qualified:") || begins(value, "keyword:"))
+        begins(value, "qualified:") || begins(value, "keyword:") || begins(value, "identifiers:") ||
+        begins(value, "assignments:"))
         return append_fragment(form, name, value);
     if (begins(value, "d:"))
         return mysql_params_append_decimal(form, name, value + 2);

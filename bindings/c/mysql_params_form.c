@@ -28,14 +28,23 @@ enum {
     TYPE_ROWS = 130,
     TYPE_IDENTIFIER = 131,
     TYPE_QUALIFIED = 132,
-    TYPE_KEYWORD = 133
+    TYPE_KEYWORD = 133,
+    TYPE_IDENTIFIERS = 134,
+    TYPE_ASSIGNMENTS = 135
 };
+
+/* What the list that is open is of: items, as those of a row too, identifiers, or assignments, also behind the column of one
+ * that has no item yet. */
+enum { OF_ITEMS, OF_IDENTIFIERS, OF_ASSIGNMENTS, OF_COLUMN };
 
 /* Bit of the flags that says unsigned. */
 enum { FLAG_UNSIGNED = 128 };
 
 /* The longest length, FE and 8 bytes. */
 enum { LENGTH_ROOM = 9 };
+
+/* A count. */
+enum { COUNT_ROOM = 4 };
 
 /* The longest value but a string: a length byte and the 12 bytes of a time. */
 enum { VALUE_ROOM = 13 };
@@ -44,7 +53,7 @@ mysql_params_form mysql_params_form_in(uint8_t *room, size_t room_len)
 {
     /* Lent if no memory is given, since mysql_params_bind takes no null. Its length is 0, so it is never written. */
     static uint8_t nothing;
-    mysql_params_form form = {room == NULL ? &nothing : room, room == NULL ? 0 : room_len, 0, 0, false, 0, 0, 0, 0};
+    mysql_params_form form = {room == NULL ? &nothing : room, room == NULL ? 0 : room_len, 0, 0, false, 0, 0, 0, 0, OF_ITEMS};
     return form;
 }
 
@@ -122,21 +131,52 @@ static void append(mysql_params_form *form, const void *bytes, size_t len)
     form->len += len;
 }
 
+/* Has the form be one in which something doesn't fit, whatever its room. */
+static bool append_nothing(mysql_params_form *form)
+{
+    return makes_room(form, SIZE_MAX);
+}
+
+/* Whether a parameter of a type may stand next. In a list the archive judges it; an assignment is of a value or an exact
+ * number. */
+static bool is_taken(const mysql_params_form *form, uint8_t type)
+{
+    if (form->list_of == OF_ITEMS)
+        return true;
+    return form->list_of != OF_IDENTIFIERS && (type <= TYPE_NUMBER || type == TYPE_VAR_STRING);
+}
+
+/* Fills in what stands before a parameter's name, and returns how many bytes it has: the name's length, behind the count of
+ * the names if it is that of a column. An item has no name. */
+static size_t fill_front(const mysql_params_form *form, size_t name_len, uint8_t front[COUNT_ROOM + LENGTH_ROOM])
+{
+    bool is_column = form->list_of == OF_ASSIGNMENTS;
+    if (form->list_at > 0 && !is_column)
+        return 0;
+    size_t count_len = is_column ? COUNT_ROOM : 0;
+    fill_number(front, count_len, 1);
+    return count_len + fill_length(front + count_len, name_len);
+}
+
 /* Appends a parameter: name, type, flags, then `head` and `tail`, which are its value in binary form. An item of a list has
- * no name. */
+ * no name, and that of an assignment is its column's. */
 static bool append_parameter(mysql_params_form *form, const char *name, uint8_t type, uint8_t flags,
                              const uint8_t *head, size_t head_len, const void *tail, size_t tail_len)
 {
-    uint8_t length[LENGTH_ROOM];
-    bool is_item = form->list_at > 0;
-    size_t name_len = name == NULL || is_item ? 0 : strlen(name);
-    size_t length_len = is_item ? 0 : fill_length(length, name_len);
-    if (is_item)
+    uint8_t front[COUNT_ROOM + LENGTH_ROOM];
+    bool has_name = form->list_at == 0 || form->list_of == OF_ASSIGNMENTS;
+    size_t name_len = name == NULL || !has_name ? 0 : strlen(name);
+    size_t front_len = fill_front(form, name_len, front);
+    if (!is_taken(form, type))
+        return append_nothing(form);
+    if (form->list_at > 0)
         form->items++;
-    if (!makes_room(form, sum(sum(length_len + 2 + head_len, name_len), tail_len)))
+    if (form->list_of == OF_COLUMN)
+        form->list_of = OF_ASSIGNMENTS;
+    if (!makes_room(form, sum(sum(front_len + 2 + head_len, name_len), tail_len)))
         return false;
     const uint8_t type_and_flags[2] = {type, flags};
-    append(form, length, length_len);
+    append(form, front, front_len);
     append(form, name, name_len);
     append(form, type_and_flags, 2);
     append(form, head, head_len);
@@ -240,8 +280,38 @@ bool mysql_params_append_decimal(mysql_params_form *form, const char *name, cons
     return append_string(form, name, TYPE_NUMBER, digits);
 }
 
+/* Appends the count of names, and these. */
+static bool append_names(mysql_params_form *form, const char *const *names, uint32_t count)
+{
+    uint8_t number[COUNT_ROOM];
+    fill_number(number, COUNT_ROOM, count);
+    bool fits = makes_room(form, COUNT_ROOM);
+    if (fits)
+        append(form, number, COUNT_ROOM);
+    for (uint32_t i = 0; i < count; i++) {
+        uint8_t length[LENGTH_ROOM];
+        size_t len = strlen(names[i]);
+        size_t length_len = fill_length(length, len);
+        fits = makes_room(form, sum(length_len, len));
+        if (fits) {
+            append(form, length, length_len);
+            append(form, names[i], len);
+        }
+    }
+    return fits;
+}
+
+/* Appends the names of an identifier to identifiers. */
+static bool append_to_identifiers(mysql_params_form *form, const char *const *names, uint32_t count)
+{
+    form->items++;
+    return append_names(form, names, count);
+}
+
 bool mysql_params_append_identifier(mysql_params_form *form, const char *name, const char *identifier)
 {
+    if (form->list_of == OF_IDENTIFIERS)
+        return append_to_identifiers(form, &identifier, 1);
     return append_string(form, name, TYPE_IDENTIFIER, identifier);
 }
 
@@ -253,20 +323,10 @@ bool mysql_params_append_keyword(mysql_params_form *form, const char *name, cons
 bool mysql_params_append_qualified(mysql_params_form *form, const char *name, const char *const *identifiers,
                                    uint32_t count)
 {
-    uint8_t number[4];
-    fill_number(number, 4, count);
-    bool fits = append_parameter(form, name, TYPE_QUALIFIED, 0, number, 4, NULL, 0);
-    for (uint32_t i = 0; i < count; i++) {
-        uint8_t length[LENGTH_ROOM];
-        size_t len = strlen(identifiers[i]);
-        size_t length_len = fill_length(length, len);
-        fits = makes_room(form, sum(length_len, len));
-        if (fits) {
-            append(form, length, length_len);
-            append(form, identifiers[i], len);
-        }
-    }
-    return fits;
+    if (form->list_of == OF_IDENTIFIERS)
+        return append_to_identifiers(form, identifiers, count);
+    append_parameter(form, name, TYPE_QUALIFIED, 0, NULL, 0, NULL, 0);
+    return append_names(form, identifiers, count);
 }
 
 /* Where the count that was appended last stands. If it didn't fit, it is past the room, and never written. */
@@ -284,26 +344,64 @@ static bool fill_count(mysql_params_form *form, size_t at, uint32_t count)
     return fits;
 }
 
-bool mysql_params_begin_list(mysql_params_form *form, const char *name)
+/* Begins a list of a type, and has what is appended stand in it. */
+static bool begin_list_of(mysql_params_form *form, const char *name, uint8_t type, uint32_t list_of)
 {
-    const uint8_t count[4] = {0, 0, 0, 0};
-    bool fits = append_parameter(form, name, TYPE_LIST, 0, count, 4, NULL, 0);
+    const uint8_t count[COUNT_ROOM] = {0, 0, 0, 0};
+    bool fits = append_parameter(form, name, type, 0, count, COUNT_ROOM, NULL, 0);
     form->list_at = count_place(form);
+    form->list_of = list_of;
     form->items = 0;
     return fits;
 }
 
+bool mysql_params_begin_list(mysql_params_form *form, const char *name)
+{
+    return begin_list_of(form, name, TYPE_LIST, OF_ITEMS);
+}
+
 bool mysql_params_end_list(mysql_params_form *form)
 {
+    if (form->list_of == OF_COLUMN)
+        append_nothing(form);
     bool fits = fill_count(form, form->list_at, form->items);
     form->list_at = 0;
+    form->list_of = OF_ITEMS;
     return fits;
+}
+
+bool mysql_params_begin_identifiers(mysql_params_form *form, const char *name)
+{
+    return begin_list_of(form, name, TYPE_IDENTIFIERS, OF_IDENTIFIERS);
+}
+
+bool mysql_params_end_identifiers(mysql_params_form *form)
+{
+    return mysql_params_end_list(form);
+}
+
+bool mysql_params_begin_assignments(mysql_params_form *form, const char *name)
+{
+    return begin_list_of(form, name, TYPE_ASSIGNMENTS, OF_ASSIGNMENTS);
+}
+
+bool mysql_params_begin_assignment(mysql_params_form *form, const char *const *identifiers, uint32_t count)
+{
+    if (form->list_of != OF_ASSIGNMENTS)
+        return append_nothing(form);
+    form->list_of = OF_COLUMN;
+    return append_names(form, identifiers, count);
+}
+
+bool mysql_params_end_assignments(mysql_params_form *form)
+{
+    return mysql_params_end_list(form);
 }
 
 bool mysql_params_begin_rows(mysql_params_form *form, const char *name)
 {
-    const uint8_t count[4] = {0, 0, 0, 0};
-    bool fits = append_parameter(form, name, TYPE_ROWS, 0, count, 4, NULL, 0);
+    const uint8_t count[COUNT_ROOM] = {0, 0, 0, 0};
+    bool fits = append_parameter(form, name, TYPE_ROWS, 0, count, COUNT_ROOM, NULL, 0);
     form->rows_at = count_place(form);
     form->rows = 0;
     return fits;
@@ -311,10 +409,10 @@ bool mysql_params_begin_rows(mysql_params_form *form, const char *name)
 
 bool mysql_params_begin_row(mysql_params_form *form)
 {
-    const uint8_t count[4] = {0, 0, 0, 0};
-    bool fits = makes_room(form, 4);
+    const uint8_t count[COUNT_ROOM] = {0, 0, 0, 0};
+    bool fits = makes_room(form, COUNT_ROOM);
     if (fits)
-        append(form, count, 4);
+        append(form, count, COUNT_ROOM);
     form->list_at = count_place(form);
     form->items = 0;
     form->rows++;

@@ -20,17 +20,18 @@ typedef struct mysql_params_form {
     size_t room_len;
     /* Bytes of the form so far: hand `room` and `len` to mysql_params_bind once `needed` is `len`. */
     size_t len;
-    /* Bytes that all appended parameters need; SIZE_MAX if that is too many to count, or not known of a row. It is
-     * greater than `len` once a parameter did not fit. */
+    /* Bytes that all appended parameters need; SIZE_MAX if that is too many to count, or not known of a row, or if
+     * something was appended where it can't stand. It is greater than `len` once a parameter did not fit. */
     size_t needed;
     /* Whether the memory is the form's own, of `malloc`, and grows. */
     bool grows;
     /* The functions' own: where the counts of the rows and of the list that are open stand, and what is in them; 0 if none
-     * is open, since no count stands at the front. */
+     * is open, since no count stands at the front. Identifiers and assignments are lists too: `list_of` tells. */
     size_t rows_at;
     size_t list_at;
     uint32_t rows;
     uint32_t items;
+    uint32_t list_of;
 } mysql_params_form;
 
 /* A date with its time of day. Fields stand in the literal as they are, also a month 0 or 255; a time of day that is all
@@ -136,6 +137,31 @@ bool mysql_params_end_row(mysql_params_form *form);
 
 /* Ends rows. */
 bool mysql_params_end_rows(mysql_params_form *form);
+
+/* Begins identifiers, as the columns of `INSERT INTO t (?)`. Then append each by mysql_params_append_identifier or
+ * mysql_params_append_qualified, without a name, and end them. Nothing else fits there. */
+bool mysql_params_begin_identifiers(mysql_params_form *form, const char *name);
+
+/* Ends identifiers. */
+bool mysql_params_end_identifiers(mysql_params_form *form);
+
+/* Begins assignments, as for `SET ?`. Then append what stands in a list, whose `name` is here the column that it is assigned
+ * to, and end them:
+ *
+ *     mysql_params_begin_assignments(&form, "set");
+ *     mysql_params_append_int(&form, "price", 7);
+ *     mysql_params_append_null(&form, "sold");
+ *     mysql_params_end_assignments(&form);
+ *
+ * writes `price` = 7, `sold` = NULL. Nothing else fits there. */
+bool mysql_params_begin_assignments(mysql_params_form *form, const char *name);
+
+/* Names the column that the next item is assigned to, as a column of a table: `count` names, of which the last is its own.
+ * The item's `name` isn't looked at. */
+bool mysql_params_begin_assignment(mysql_params_form *form, const char *const *identifiers, uint32_t count);
+
+/* Ends assignments. A column without an item doesn't fit. */
+bool mysql_params_end_assignments(mysql_params_form *form);
 
 /* Binds as mysql_params_bind_fragments, as mysql_params_bind_form binds by mysql_params_bind. */
 int32_t mysql_params_bind_fragments_form(const uint8_t *query, size_t query_len, const mysql_params_form *form,

@@ -966,6 +966,180 @@ static void forms_of_lists(void)
     mysql_params_form_free(&form);
 }
 
+/* Identifiers and assignments in their form, of which some columns have a table; written by hand from mysql_params.h. */
+static const uint8_t columns_form[] = {
+    7, 'c', 'o', 'l', 'u', 'm', 'n', 's', 134, 0, 2, 0, 0, 0, /* two identifiers */
+    1, 0, 0, 0, 1, 'a',                                       /* a */
+    2, 0, 0, 0, 1, 't', 1, 'b',                               /* t.b */
+    3, 's', 'e', 't', 135, 0, 3, 0, 0, 0,                     /* three assignments */
+    1, 0, 0, 0, 1, 'a', 8, 0, 1, 0, 0, 0, 0, 0, 0, 0,         /* a: the number 1 in 8 bytes */
+    2, 0, 0, 0, 1, 't', 1, 'b', 253, 0, 1, 'x',               /* t.b: a string */
+    1, 0, 0, 0, 1, 'c', 128, 0, 5, '-', '1', '.', '5', '0'};  /* c: an exact number */
+enum { COLUMNS_END = 28 };                                    /* where the second parameter begins */
+
+/* Appends them. */
+static bool append_columns(mysql_params_form *form)
+{
+    static const char *const column_b[] = {"t", "b"};
+    mysql_params_begin_identifiers(form, "columns");
+    mysql_params_append_identifier(form, "no name of an identifier", "a");
+    mysql_params_append_qualified(form, NULL, column_b, 2);
+    mysql_params_end_identifiers(form);
+    mysql_params_begin_assignments(form, "set");
+    mysql_params_append_int(form, "a", 1);
+    mysql_params_begin_assignment(form, column_b, 2);
+    mysql_params_append_text(form, "no name beside the column's", "x");
+    mysql_params_append_decimal(form, "c", "-1.50");
+    return mysql_params_end_assignments(form);
+}
+
+/* They have the form that is written by hand, in room enough; in each shorter room they aren't bound. A form that is cut ends
+ * within a parameter. */
+static void forms_of_assignments(void)
+{
+    static const uint8_t query[] = ":columns; :set";
+    static const char *const wanted = "`a`, `t`.`b`; `a` = 1, `t`.`b` = 'x', `c` = -1.50";
+    enum { LEN = sizeof columns_form };
+    test_case it = {0};
+    char *text = NULL;
+    mysql_params_report report = {0};
+    mysql_params_form form = mysql_params_form_growing();
+    expect(append_columns(&form) && form.len == LEN && form.needed == LEN, &it, "another length is wanted");
+    expect(memcmp(form.room, columns_form, LEN) == 0, &it, "another form is wanted");
+    int32_t number = mysql_params_bind_fragments_form(query, sizeof query - 1, &form, false, &text, &report);
+    expect(number == MYSQL_PARAMS_DONE && strcmp(text, wanted) == 0, &it, "another text is wanted");
+    free(text);
+    for (size_t len = 0; len < LEN; len++) {
+        uint8_t room[LEN], answer[128];
+        it.line = (int)len;
+        memset(room, UNTOUCHED, sizeof room);
+        mysql_params_form cut = mysql_params_form_in(room, len);
+        expect(!append_columns(&cut) && cut.needed == LEN && cut.len <= len, &it, "another need is wanted");
+        expect(is_untouched(room, cut.len, sizeof room), &it, "the room is written after what fits");
+        number = mysql_params_bind_fragments_form(query, sizeof query - 1, &cut, false, &text, &report);
+        expect(number == MYSQL_PARAMS_OUT_OF_MEMORY && text == NULL, &it, "a cut form is bound");
+        uint8_t *exact = exact_copy((bytes){(uint8_t *)columns_form, len});
+        memset(answer, UNTOUCHED, sizeof answer);
+        number = mysql_params_bind_fragments(query, sizeof query - 1, exact, len, false, answer, sizeof answer, &report);
+        free(exact);
+        size_t place = len < COLUMNS_END ? 0 : 1, position = place * COLUMNS_END;
+        bool ends = len != 0 && len != COLUMNS_END;
+        expect(number == (ends ? MYSQL_PARAMS_FORM_END : len == 0 ? MYSQL_PARAMS_POSITIONAL_FOR_NAMED : MYSQL_PARAMS_MISSING),
+               &it, "another refusal is wanted");
+        expect(!ends || (report.place == place && report.position == position), &it, "another parameter is wanted");
+        expect(is_untouched(answer, 0, sizeof answer), &it, "a refusal writes");
+    }
+    number = mysql_params_bind_form(query, sizeof query - 1, &form, false, &text, &report);
+    expect(number == MYSQL_PARAMS_FORM_TYPE && report.byte == 134, &it, "identifiers are a value");
+    mysql_params_form_free(&form);
+}
+
+/* Appends what can't stand in identifiers or assignments, by its number; false if there is no more. */
+static bool append_misplaced(mysql_params_form *form, int which)
+{
+    static const char *const column_b[] = {"t", "b"};
+    if (which < 6)
+        mysql_params_begin_identifiers(form, NULL);
+    else if (which != 14)
+        mysql_params_begin_assignments(form, NULL);
+    switch (which) {
+    case 0: return mysql_params_append_int(form, NULL, 1), true;
+    case 1: return mysql_params_append_text(form, NULL, "x"), true;
+    case 2: return mysql_params_append_keyword(form, NULL, "DEFAULT"), true;
+    case 3: return mysql_params_begin_list(form, NULL), true;
+    case 4: return mysql_params_begin_identifiers(form, NULL), true;
+    case 5: return mysql_params_begin_assignment(form, column_b, 2), true;
+    case 6: return mysql_params_append_identifier(form, "a", "b"), true;
+    case 7: return mysql_params_append_qualified(form, "a", column_b, 2), true;
+    case 8: return mysql_params_append_keyword(form, "a", "DEFAULT"), true;
+    case 9: return mysql_params_begin_list(form, "a"), true;
+    case 10: return mysql_params_begin_rows(form, "a"), true;
+    case 11: return mysql_params_begin_assignments(form, "a"), true;
+    case 12: /* a column without an item, and another */
+        mysql_params_begin_assignment(form, column_b, 2);
+        return mysql_params_begin_assignment(form, column_b, 2), true;
+    case 13: return mysql_params_begin_assignment(form, column_b, 2), true;
+    case 14: return mysql_params_begin_assignment(form, column_b, 2), true;
+    default: return false;
+    }
+}
+
+/* What can't stand there makes a form that isn't bound, whatever is appended after it. */
+static void misplaced_parameters(void)
+{
+    test_case it = {0};
+    for (int which = 0;; which++) {
+        char *text = NULL;
+        mysql_params_report report = {0};
+        mysql_params_form form = mysql_params_form_growing();
+        it.line = which;
+        bool is_any = append_misplaced(&form, which);
+        bool ends = mysql_params_end_assignments(&form);
+        expect(ends == !is_any && (form.needed == SIZE_MAX) == is_any, &it, "it is appended");
+        expect(!is_any || !mysql_params_append_null(&form, NULL), &it, "something is appended after it");
+        int32_t number = mysql_params_bind_fragments_form((const uint8_t *)"?", 1, &form, false, &text, &report);
+        expect(number == (is_any ? MYSQL_PARAMS_OUT_OF_MEMORY : MYSQL_PARAMS_FAULT), &it, "it is bound");
+        mysql_params_form_free(&form);
+        if (!is_any)
+            break;
+    }
+}
+
+/* Appends assignments that can't be written, by their number, and what they are refused for; false if there is no more. */
+static bool append_faulty(mysql_params_form *form, int which, mysql_params_report *wanted)
+{
+    static const char *const names[] = {"t", "b", ""};
+    mysql_params_begin_assignments(form, NULL);
+    mysql_params_append_decimal(form, "a", which == 3 ? "1e5" : "1.5");
+    wanted->byte = MYSQL_PARAMS_FAULT_NUMBER;
+    switch (which) {
+    case 0: /* the second number has two points */
+        mysql_params_begin_assignment(form, names, 2);
+        mysql_params_append_decimal(form, NULL, "1.2.3");
+        wanted->values = 1;
+        break;
+    case 1: /* the column goes before its item */
+        mysql_params_begin_assignment(form, names, 3);
+        mysql_params_append_decimal(form, NULL, "");
+        wanted->byte = MYSQL_PARAMS_FAULT_EMPTY_NAME;
+        wanted->values = 3;
+        break;
+    case 2: /* a column without names, and before it two */
+        mysql_params_append_null(form, "b");
+        mysql_params_begin_assignment(form, names, 0);
+        mysql_params_append_null(form, NULL);
+        wanted->byte = MYSQL_PARAMS_FAULT_EMPTY;
+        break;
+    case 3: /* an item goes before the next column */
+        mysql_params_append_null(form, NULL);
+        wanted->values = 0;
+        break;
+    default:
+        return false;
+    }
+    return mysql_params_end_assignments(form);
+}
+
+/* Faults of assignments that the cases of all languages don't have. */
+static void faults_of_assignments(void)
+{
+    test_case it = {0};
+    for (int which = 0;; which++) {
+        char *text = NULL;
+        mysql_params_report report = {9, 9, 9, 9, 9, 9}, wanted = {0};
+        mysql_params_form form = mysql_params_form_growing();
+        it.line = which;
+        bool is_any = append_faulty(&form, which, &wanted);
+        if (is_any) {
+            int32_t number = mysql_params_bind_fragments_form((const uint8_t *)"?", 1, &form, false, &text, &report);
+            expect(number == MYSQL_PARAMS_FAULT && same_report(&report, &wanted), &it, "another refusal is wanted");
+        }
+        mysql_params_form_free(&form);
+        if (!is_any)
+            break;
+    }
+}
+
 /* A query, and the table that RULES gives it. */
 static const uint8_t tabled_query[] = "SELECT :id, :name, x:id";
 static const mysql_params_table_head tabled_head = {3, 0, 1, 2, 20, 12};
@@ -1316,6 +1490,9 @@ int main(int count, char **words)
     all &= passed("table_of_fragments", table_of_fragments);
     all &= passed("table_of_steady_fragments", table_of_steady_fragments);
     all &= passed("forms_of_lists", forms_of_lists);
+    all &= passed("forms_of_assignments", forms_of_assignments);
+    all &= passed("misplaced_parameters", misplaced_parameters);
+    all &= passed("faults_of_assignments", faults_of_assignments);
     all &= passed("floats", floats);
     all &= passed("names_of_queries", names_of_queries);
     all &= passed("rows_of_queries", rows_of_queries);
