@@ -156,6 +156,16 @@ private:
         held_;
 };
 
+/* The name of a column, as "price", or with the names of what it is in before it, as {"item", "price"}. It owns them. */
+struct Column {
+    Column(const char *name) : names{name} {}
+    Column(std::string_view name) : names{std::string(name)} {}
+    Column(const std::string &name) : names{name} {}
+    Column(std::initializer_list<std::string> parts) : names(parts) {}
+    Column(std::vector<std::string> parts) noexcept : names(std::move(parts)) {}
+    std::vector<std::string> names;
+};
+
 /* Parameters, by name or in order. It owns all that was appended. */
 class Form {
 public:
@@ -205,11 +215,8 @@ public:
     /* The name of what is in something else, as {"shop", "t"} of a table in a database. */
     Form &append_qualified(const char *name, const std::vector<std::string> &identifiers)
     {
-        std::vector<const char *> texts;
-        for (const std::string &identifier : identifiers)
-            texts.push_back(whole(identifier));
-        const auto count = static_cast<std::uint32_t>(texts.size());
-        return fitting(count == texts.size() && mysql_params_append_qualified(&form_, name, texts.data(), count));
+        const std::vector<const char *> texts = texts_of(identifiers);
+        return fitting(mysql_params_append_qualified(&form_, name, texts.data(), static_cast<std::uint32_t>(texts.size())));
     }
     /* A keyword that the program has, as "DESC": never a text from outside. */
     Form &append_keyword(const char *name, const char *keyword)
@@ -236,6 +243,28 @@ public:
         }
         return fitting(mysql_params_end_rows(&form_));
     }
+    /* Names with commas between them, of what makes a Column, as {"id", "price"} for `INSERT INTO t (?)`. */
+    template <typename Columns = std::vector<Column>> Form &append_identifiers(const char *name, const Columns &columns)
+    {
+        mysql_params_begin_identifiers(&form_, name);
+        for (const auto &column : columns)
+            append_qualified(nullptr, Column(column).names);
+        return fitting(mysql_params_end_identifiers(&form_));
+    }
+    /* Assignments, of pairs of what makes a Column and a Value, as {{"price", 7}, {"sold", nullptr}} or a std::map for
+     * `SET ?`. */
+    template <typename Pairs = std::vector<std::pair<Column, Value>>>
+    Form &append_assignments(const char *name, const Pairs &pairs)
+    {
+        mysql_params_begin_assignments(&form_, name);
+        for (const auto &[column, value] : pairs) {
+            const Column owned(column);
+            const std::vector<const char *> names = texts_of(owned.names);
+            fitting(mysql_params_begin_assignment(&form_, names.data(), static_cast<std::uint32_t>(names.size())));
+            append_as(nullptr, Value(value));
+        }
+        return fitting(mysql_params_end_assignments(&form_));
+    }
     /* The flat form, as mysql_params_bind takes it. */
     const mysql_params_form &get() const noexcept { return form_; }
 
@@ -252,6 +281,16 @@ private:
         if (text.find('\0') != text.npos)
             throw std::invalid_argument("mysql_params: a name or a number holds a zero byte");
         return text.c_str();
+    }
+    /* Those of names, of which there are no more than a count says. */
+    static std::vector<const char *> texts_of(const std::vector<std::string> &names)
+    {
+        if (names.size() > std::numeric_limits<std::uint32_t>::max())
+            throw std::bad_alloc();
+        std::vector<const char *> texts;
+        for (const std::string &name : names)
+            texts.push_back(whole(name));
+        return texts;
     }
     Form &append_as(const char *name, const Value &value)
     {
@@ -471,7 +510,7 @@ inline std::string bind(std::string_view query, const Form &form = {}, Mode mode
     return detail::bound_in(mysql_params_bind_wide, query, form, mode);
 }
 
-/* The same of a form that has doubles, lists, rows, exact numbers, identifiers or keywords too. Throws Error. */
+/* The same of a form that has doubles, lists, rows, exact numbers, identifiers, assignments or keywords too. Throws Error. */
 inline std::string bind_fragments(std::string_view query, const Form &form, Mode mode = Mode::backslash_escapes)
 {
     return detail::bound_in(mysql_params_bind_fragments_wide, query, form, mode);
@@ -484,7 +523,7 @@ inline std::string bind_anywhere(std::string_view query, const Form &form = {})
     return detail::bound_anywhere(mysql_params_bind_anywhere_wide, query, form);
 }
 
-/* As bind_anywhere, of a form as for bind_fragments. An identifier has to be ASCII without a backslash too. Throws Error. */
+/* As bind_anywhere, of a form as for bind_fragments. A name has to be ASCII without a backslash too. Throws Error. */
 inline std::string bind_fragments_anywhere(std::string_view query, const Form &form = {})
 {
     return detail::bound_anywhere(mysql_params_bind_fragments_anywhere_wide, query, form);

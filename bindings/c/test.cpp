@@ -194,6 +194,42 @@ static void exact_numbers_and_names()
          "17 Fragment at place 0 can't be written: it is empty");
 }
 
+/* Identifiers and assignments. The texts follow the MySQL Reference Manual, "INSERT Statement" and "UPDATE Statement". */
+static void identifiers_and_assignments()
+{
+    using mysql_params::bind_fragments;
+    using mysql_params::bind_fragments_anywhere;
+    using mysql_params::Column;
+    using mysql_params::Decimal;
+    using Pairs = std::vector<std::pair<std::string, int>>;
+    Form form;
+    form.append_identifiers("columns", {"a", {"t", "b`"}}).append_assignments("set", {{"a", 1}, {{"t", "b"}, "it's"}});
+    same(bind_fragments(":columns; :set", form), "`a`, `t`.`b```; `a` = 1, `t`.`b` = 'it\\'s'");
+    same(bind_fragments_anywhere(":columns; :set", form), "`a`, `t`.`b```; `a` = 1, `t`.`b` = _utf8mb4'it''s'");
+    Form marks;
+    marks.append_identifiers(nullptr, std::vector<std::string>{"a", "b"}).append_identifiers(nullptr, {"one"});
+    marks.append_assignments(nullptr, Pairs{{"a", 1}, {"b", 2}}).append_assignments(nullptr, {{"one", nullptr}});
+    marks.append_assignments(nullptr, std::vector<std::pair<Column, Value>>{{"x", 0.5}, {{"y"}, Decimal("-1.50")}}).append(7);
+    same(bind_fragments("?; ?; ?; ?; ?; ?", marks),
+         "`a`, `b`; `one`; `a` = 1, `b` = 2; `one` = NULL; `x` = 0.5e0, `y` = -1.50; 7");
+    same(thrown([] { bind_fragments("?", Form().append_identifiers(nullptr, {})); }),
+         "17 Fragment at place 0 can't be written: it is empty");
+    same(thrown([] { bind_fragments("?", Form().append_assignments(nullptr, Pairs{})); }),
+         "17 Fragment at place 0 can't be written: it is empty");
+    same(thrown([] { bind_fragments("?", Form().append_assignments(nullptr, {{{"t", "a"}, 1}, {"", 2}})); }),
+         "17 Fragment at place 0 can't be written: name 2 is empty");
+    same(thrown([] { bind_fragments("?", Form().append_assignments(nullptr, {{"a", Decimal("1")}, {"b", Decimal("1e5")}})); }),
+         "17 Fragment at place 0 can't be written: item 1 of row 0 is no exact number");
+    same(thrown([] { bind_fragments("?", Form().append_assignments(nullptr, {{"a", -std::numeric_limits<float>::infinity()}})); }),
+         "14 Float at place 0");
+    same(thrown([] { bind_fragments_anywhere("?", Form().append_assignments(nullptr, {{"\xC3\xA9", 1}})); }),
+         "19 Fragment at place 0 has a name with a backslash or a byte that is not ASCII");
+    same(thrown([] { bind("?", Form().append_assignments(nullptr, {{"a", 1}})); }),
+         "5 Parameter 0 at byte 0 of the form: Unsupported column type 135");
+    same(thrown([] { Form().append_identifiers(nullptr, {"a\0b"s}); }), "invalid argument");
+    same(thrown([] { Form().append_assignments(nullptr, {{{"t", "a\0b"s}, 1}}); }), "invalid argument");
+}
+
 /* What a call of rows throws: the row, how many texts stand before it, and the message. */
 template <typename Call> static std::string row_thrown(Call call)
 {
@@ -568,6 +604,7 @@ int main(int count, char **words)
     all &= passed("queries", queries);
     all &= passed("fragments", fragments);
     all &= passed("exact_numbers_and_names", exact_numbers_and_names);
+    all &= passed("identifiers_and_assignments", identifiers_and_assignments);
     all &= passed("floats", floats);
     all &= passed("steady_texts", steady_texts);
     all &= passed("steady_fragments", steady_fragments);
