@@ -226,44 +226,52 @@ public:
     /* A list of what makes a Value, as for `IN (?)`. */
     template <typename Items> Form &append_list(const char *name, const Items &items)
     {
-        mysql_params_begin_list(&form_, name);
-        for (const auto &item : items)
-            append_as(nullptr, Value(item));
-        return fitting(mysql_params_end_list(&form_));
+        return appending([&] {
+            mysql_params_begin_list(&form_, name);
+            for (const auto &item : items)
+                append_as(nullptr, Value(item));
+            fitting(mysql_params_end_list(&form_));
+        });
     }
     /* Rows of what makes a Value, as for `VALUES ?`. */
     template <typename Rows> Form &append_rows(const char *name, const Rows &rows)
     {
-        mysql_params_begin_rows(&form_, name);
-        for (const auto &row : rows) {
-            mysql_params_begin_row(&form_);
-            for (const auto &item : row)
-                append_as(nullptr, Value(item));
-            mysql_params_end_row(&form_);
-        }
-        return fitting(mysql_params_end_rows(&form_));
+        return appending([&] {
+            mysql_params_begin_rows(&form_, name);
+            for (const auto &row : rows) {
+                mysql_params_begin_row(&form_);
+                for (const auto &item : row)
+                    append_as(nullptr, Value(item));
+                mysql_params_end_row(&form_);
+            }
+            fitting(mysql_params_end_rows(&form_));
+        });
     }
     /* Names with commas between them, of what makes a Column, as {"id", "price"} for `INSERT INTO t (?)`. */
     template <typename Columns = std::vector<Column>> Form &append_identifiers(const char *name, const Columns &columns)
     {
-        mysql_params_begin_identifiers(&form_, name);
-        for (const auto &column : columns)
-            append_qualified(nullptr, Column(column).names);
-        return fitting(mysql_params_end_identifiers(&form_));
+        return appending([&] {
+            mysql_params_begin_identifiers(&form_, name);
+            for (const auto &column : columns)
+                append_qualified(nullptr, Column(column).names);
+            fitting(mysql_params_end_identifiers(&form_));
+        });
     }
     /* Assignments, of pairs of what makes a Column and a Value, as {{"price", 7}, {"sold", nullptr}} or a std::map for
      * `SET ?`. */
     template <typename Pairs = std::vector<std::pair<Column, Value>>>
     Form &append_assignments(const char *name, const Pairs &pairs)
     {
-        mysql_params_begin_assignments(&form_, name);
-        for (const auto &[column, value] : pairs) {
-            const Column owned(column);
-            const std::vector<const char *> names = texts_of(owned.names);
-            fitting(mysql_params_begin_assignment(&form_, names.data(), static_cast<std::uint32_t>(names.size())));
-            append_as(nullptr, Value(value));
-        }
-        return fitting(mysql_params_end_assignments(&form_));
+        return appending([&] {
+            mysql_params_begin_assignments(&form_, name);
+            for (const auto &[column, value] : pairs) {
+                const Column owned(column);
+                const std::vector<const char *> names = texts_of(owned.names);
+                fitting(mysql_params_begin_assignment(&form_, names.data(), static_cast<std::uint32_t>(names.size())));
+                append_as(nullptr, Value(value));
+            }
+            fitting(mysql_params_end_assignments(&form_));
+        });
     }
     /* The flat form, as mysql_params_bind takes it. */
     const mysql_params_form &get() const noexcept { return form_; }
@@ -273,6 +281,20 @@ private:
     {
         if (!fits)
             throw std::bad_alloc();
+        return *this;
+    }
+    /* Appends several parts: if that throws, the form is as before. */
+    template <typename Append> Form &appending(Append append)
+    {
+        mysql_params_form before = form_;
+        try {
+            append();
+        } catch (...) {
+            before.room = form_.room;
+            before.room_len = form_.room_len;
+            form_ = before;
+            throw;
+        }
         return *this;
     }
     /* A text without a zero byte, which would cut it. */

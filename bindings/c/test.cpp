@@ -230,6 +230,23 @@ static void identifiers_and_assignments()
     same(thrown([] { Form().append_assignments(nullptr, {{{"t", "a\0b"s}, 1}}); }), "invalid argument");
 }
 
+/* A form to which something can't be appended is as before. */
+static void forms_after_exceptions()
+{
+    using mysql_params::Decimal;
+    const Decimal cut("1\0"sv);
+    const std::vector<Decimal> items{Decimal("1"), cut};
+    const std::string long_text(100000, 'x');
+    Form form;
+    form.append("a", 1);
+    same(thrown([&] { form.append_list("list", items); }), "invalid argument");
+    same(thrown([&] { form.append_rows("rows", std::vector<std::vector<Decimal>>{items}); }), "invalid argument");
+    same(thrown([&] { form.append_identifiers("names", {"a", "b\0"s}); }), "invalid argument");
+    same(thrown([&] { form.append_assignments("set", {{"a", long_text}, {"b", cut}}); }), "invalid argument");
+    form.append("b", 2).append_assignments("set", {{"c", 3}});
+    same(mysql_params::bind_fragments(":a, :b, :set", form), "1, 2, `c` = 3");
+}
+
 /* What a call of rows throws: the row, how many texts stand before it, and the message. */
 template <typename Call> static std::string row_thrown(Call call)
 {
@@ -605,6 +622,7 @@ int main(int count, char **words)
     all &= passed("fragments", fragments);
     all &= passed("exact_numbers_and_names", exact_numbers_and_names);
     all &= passed("identifiers_and_assignments", identifiers_and_assignments);
+    all &= passed("forms_after_exceptions", forms_after_exceptions);
     all &= passed("floats", floats);
     all &= passed("steady_texts", steady_texts);
     all &= passed("steady_fragments", steady_fragments);
