@@ -134,7 +134,7 @@ pub enum Error {
         /// The first such byte of the query.
         position: usize,
     },
-    /// The identifier for a place has a backslash or a byte from 128 on. It is of
+    /// A name of what is for a place has a backslash or a byte from 128 on. It is of
     /// [`bind_fragments_anywhere`](crate::bind_fragments_anywhere) alone.
     UnsteadyFragment {
         /// Number of the place.

@@ -19,6 +19,8 @@ const ROWS: u8 = 130;
 const IDENTIFIER: u8 = 131;
 const QUALIFIED: u8 = 132;
 const KEYWORD: u8 = 133;
+const IDENTIFIERS: u8 = 134;
+const ASSIGNMENTS: u8 = 135;
 
 /// Bit of the flags that says unsigned.
 const UNSIGNED: u8 = 128;
@@ -136,18 +138,27 @@ fn append_count(to: &mut Vec<u8>, count: usize) -> Result<(), Error> {
     append(to, &count.to_le_bytes())
 }
 
+/// Appends type, flags and the rest of an item.
+fn append_item(to: &mut Vec<u8>, item: &Item<'_>) -> Result<(), Error> {
+    match item {
+        Item::Value(value) => append_value(to, value),
+        Item::Decimal(digits) => append_text(to, NUMBER, digits),
+        Item::Int128(number) => append_number(to, number),
+        Item::UInt128(number) => append_number(to, number),
+    }
+}
+
 /// Appends the count of items, and these.
 fn append_items(to: &mut Vec<u8>, items: &[Item<'_>]) -> Result<(), Error> {
     append_count(to, items.len())?;
-    for item in items {
-        match item {
-            Item::Value(value) => append_value(to, value)?,
-            Item::Decimal(digits) => append_text(to, NUMBER, digits)?,
-            Item::Int128(number) => append_number(to, number)?,
-            Item::UInt128(number) => append_number(to, number)?,
-        }
-    }
-    Ok(())
+    items.iter().try_for_each(|item| append_item(to, item))
+}
+
+/// Appends the count of names, and these.
+fn append_names(to: &mut Vec<u8>, names: &[&str]) -> Result<(), Error> {
+    append_count(to, names.len())?;
+    let mut names = names.iter();
+    names.try_for_each(|name| append_string(to, name.as_bytes()))
 }
 
 /// Appends type, flags and the rest of a fragment.
@@ -170,9 +181,21 @@ fn append_fragment(to: &mut Vec<u8>, fragment: &Fragment<'_>) -> Result<(), Erro
         }
         Fragment::Qualified(names) => {
             append(to, &[QUALIFIED, 0])?;
-            append_count(to, names.len())?;
-            let mut names = names.iter();
-            names.try_for_each(|name| append_string(to, name.as_bytes()))
+            append_names(to, names)
+        }
+        Fragment::Identifiers(columns) => {
+            append(to, &[IDENTIFIERS, 0])?;
+            append_count(to, columns.len())?;
+            let mut columns = columns.iter();
+            columns.try_for_each(|column| append_names(to, column.names()))
+        }
+        Fragment::Assignments(assignments) => {
+            append(to, &[ASSIGNMENTS, 0])?;
+            append_count(to, assignments.len())?;
+            assignments.iter().try_for_each(|(column, item)| {
+                append_names(to, column.names())?;
+                append_item(to, item)
+            })
         }
     }
 }

@@ -2,7 +2,7 @@
 use crate::Value;
 use std::fmt;
 
-/// An item of a list or a row.
+/// An item of a list or a row, or what a column is set to.
 #[derive(Clone, Copy, Debug, PartialEq)]
 pub enum Item<'a> {
     /// A value.
@@ -13,6 +13,56 @@ pub enum Item<'a> {
     Int128(i128),
     /// An unsigned whole number of up to 128 bits, as [`Fragment::Int128`].
     UInt128(u128),
+}
+
+/// The name of a column.
+///
+/// ```
+/// use mysql_params::Column;
+///
+/// assert_eq!(Column::from("price"), Column::Identifier("price"));
+/// assert_eq!(Column::from(["item", "price"]), Column::Qualified(vec!["item", "price"]));
+/// ```
+#[derive(Clone, Debug, PartialEq, Eq)]
+pub enum Column<'a> {
+    /// A name alone.
+    Identifier(&'a str),
+    /// A name, and before it those of what it is in, as a table.
+    Qualified(Vec<&'a str>),
+}
+
+impl Column<'_> {
+    /// The names.
+    pub(crate) fn names(&self) -> &[&str] {
+        match self {
+            Column::Identifier(name) => std::slice::from_ref(name),
+            Column::Qualified(names) => names,
+        }
+    }
+}
+
+impl<'a> From<&'a str> for Column<'a> {
+    fn from(name: &'a str) -> Self {
+        Column::Identifier(name)
+    }
+}
+
+impl<'a> From<&'a String> for Column<'a> {
+    fn from(name: &'a String) -> Self {
+        Column::Identifier(name)
+    }
+}
+
+impl<'a, const N: usize> From<[&'a str; N]> for Column<'a> {
+    fn from(names: [&'a str; N]) -> Self {
+        Column::Qualified(names.to_vec())
+    }
+}
+
+impl<'a> From<Vec<&'a str>> for Column<'a> {
+    fn from(names: Vec<&'a str>) -> Self {
+        Column::Qualified(names)
+    }
 }
 
 /// What stands in a place of a query. It borrows its bytes.
@@ -39,9 +89,55 @@ pub enum Fragment<'a> {
     Identifier(&'a str),
     /// The name of what is in something else, as a database and a table in it.
     Qualified(Vec<&'a str>),
+    /// Names with commas between them, as for `INSERT INTO t (?)`: see [`Fragment::identifiers`].
+    Identifiers(Vec<Column<'a>>),
+    /// Assignments, as for `SET ?`: see [`Fragment::assignments`].
+    Assignments(Vec<(Column<'a>, Item<'a>)>),
     /// A keyword of the program's own, as `DESC`: never a text from outside. It is written if it is one of those that the
     /// crate's README.md lists.
     Keyword(&'static str),
+}
+
+impl<'a> Fragment<'a> {
+    /// Names with commas between them.
+    ///
+    /// ```
+    /// use mysql_params::{Column, Fragment, Fragments, bind_fragments_str};
+    ///
+    /// let columns = Fragment::identifiers(["id", "na`me"]);
+    /// let text = bind_fragments_str("SELECT ? FROM t", &Fragments::Positional(&[columns]))?;
+    /// assert_eq!(text, "SELECT `id`, `na``me` FROM t");
+    ///
+    /// let columns = Fragment::identifiers([Column::from("id"), ["t", "name"].into()]);
+    /// let text = bind_fragments_str("SELECT ? FROM t", &Fragments::Positional(&[columns]))?;
+    /// assert_eq!(text, "SELECT `id`, `t`.`name` FROM t");
+    /// # Ok::<(), mysql_params::Error>(())
+    /// ```
+    pub fn identifiers<C: Into<Column<'a>>>(columns: impl IntoIterator<Item = C>) -> Self {
+        Fragment::Identifiers(columns.into_iter().map(Into::into).collect())
+    }
+
+    /// Columns, and what they are set to: values and exact numbers.
+    ///
+    /// ```
+    /// use mysql_params::{Fragment, Fragments, Item, bind_fragments_str};
+    ///
+    /// let set = Fragment::assignments([("name", "it's".into()), ("price", Item::Decimal("9.99"))]);
+    /// let given = [("set", set), ("id", 7.into())];
+    /// let text = bind_fragments_str("UPDATE item SET :set WHERE id = :id", &Fragments::Named(&given))?;
+    /// assert_eq!(text, r"UPDATE item SET `name` = 'it\'s', `price` = 9.99 WHERE id = 7");
+    /// # Ok::<(), mysql_params::Error>(())
+    /// ```
+    pub fn assignments<C: Into<Column<'a>>, I: Into<Item<'a>>>(
+        assignments: impl IntoIterator<Item = (C, I)>,
+    ) -> Self {
+        let pairs = assignments.into_iter();
+        Fragment::Assignments(
+            pairs
+                .map(|(column, item)| (column.into(), item.into()))
+                .collect(),
+        )
+    }
 }
 
 /// The fragments that are given to a query. Names that the query doesn't have are ignored.
@@ -53,10 +149,11 @@ pub enum Fragments<'a> {
     Named(&'a [(&'a str, Fragment<'a>)]),
 }
 
-/// Why a fragment can't be written. Numbers of rows, items and names begin at 0.
+/// Why a fragment can't be written: the first fault, of an assignment that of its column and then that of its item. Numbers
+/// of rows, items and names begin at 0.
 #[derive(Clone, Copy, Debug, PartialEq, Eq)]
 pub enum Fault {
-    /// A list without items, no rows, or a qualified name without names.
+    /// A list without items, no rows, no identifiers, no assignments, or a qualified name without names.
     Empty,
     /// A row without items.
     EmptyRow {
@@ -70,36 +167,36 @@ pub enum Fault {
     },
     /// A text that is no exact number.
     Number {
-        /// The number of its row; 0 in a list and for a number alone.
+        /// The number of its row; 0 in a list, in assignments and for a number alone.
         row: usize,
-        /// Its number in the row or list; 0 for a number alone.
+        /// Its number in the row or list, or that of its assignment; 0 for a number alone.
         item: usize,
     },
     /// A name without bytes.
     EmptyName {
-        /// Its number in a qualified name; 0 for a name alone.
+        /// Its number among all names of the fragment; 0 for a name alone.
         part: usize,
     },
     /// A name with a byte 0.
     ZeroByte {
-        /// Its number in a qualified name; 0 for a name alone.
+        /// Its number among all names of the fragment; 0 for a name alone.
         part: usize,
     },
     /// A name of more than 64 characters, which servers refuse.
     LongName {
-        /// Its number in a qualified name; 0 for a name alone.
+        /// Its number among all names of the fragment; 0 for a name alone.
         part: usize,
     },
     /// A name that ends in a space, which servers refuse.
     TrailingSpace {
-        /// Its number in a qualified name; 0 for a name alone.
+        /// Its number among all names of the fragment; 0 for a name alone.
         part: usize,
     },
     /// A text that is none of the keywords that are written: the crate's README.md lists them, all in capitals.
     Keyword,
     /// A name with a backslash before a backquote or at its end.
     Backslash {
-        /// Its number in a qualified name; 0 for a name alone.
+        /// Its number among all names of the fragment; 0 for a name alone.
         part: usize,
     },
 }

@@ -42,7 +42,7 @@ mod words;
 
 pub use duration::DurationTooLong;
 pub use error::Error;
-pub use fragment::{Fault, Fragment, Fragments, Item};
+pub use fragment::{Column, Fault, Fragment, Fragments, Item};
 pub use name::Name;
 pub use portable::{Construct, Unportable};
 pub use rows::{Row, RowError, Texts, TextsIter, bind_rows, bind_rows_in};
@@ -60,7 +60,7 @@ struct Readme;
 const _: () = {
     const fn is_send_and_sync<T: Send + Sync>() {}
     is_send_and_sync::<(Construct, Date, Error, Name, Names, Params<'_>)>();
-    is_send_and_sync::<(Fault, Fragment<'_>, Fragments<'_>, Item<'_>)>();
+    is_send_and_sync::<(Column<'_>, Fault, Fragment<'_>, Fragments<'_>, Item<'_>)>();
     is_send_and_sync::<(RowError, Template, Texts, TextsIter<'_>)>();
     is_send_and_sync::<(Time, Unportable, Value<'_>)>();
 };
@@ -221,8 +221,8 @@ pub fn bind_in(
     bind_form_in(query, &form::form_of(params)?, no_backslash_escape)
 }
 
-/// The query with what is given in its places, also floats, lists, rows, exact numbers, identifiers and keywords: the text
-/// to send. All other values are written as by [`bind`], and the connection and [`first_unportable`] are as there.
+/// The query with what is given in its places, also floats, lists, rows, exact numbers, identifiers, assignments and
+/// keywords: the text to send. All other values are written as by [`bind`], and the connection and [`first_unportable`] are as there.
 ///
 /// ```
 /// use mysql_params::{Fragment, Fragments, bind_fragments};
@@ -282,8 +282,8 @@ pub fn bind_anywhere(query: &[u8], params: &Params<'_>) -> Result<Vec<u8>, Error
     bind_form_anywhere(query, &form::form_of(params)?)
 }
 
-/// As [`bind_fragments`], with a text as of [`bind_anywhere`], which depends on no connection. An identifier has to be ASCII
-/// without a backslash too.
+/// As [`bind_fragments`], with a text as of [`bind_anywhere`], which depends on no connection. A name has to be ASCII without
+/// a backslash too.
 ///
 /// ```
 /// use mysql_params::{Fragment, Fragments, bind_fragments_anywhere};

@@ -1,6 +1,9 @@
 //! Tests of what the public calls don't show: the room lent, whole reports, and numbers that come by fault alone.
 use crate::archive::{Call, DONE, ROOM, Reader, Report, first_construct, unportable, written};
-use crate::{Construct, Error, Params, Unportable, Value, bind, names};
+use crate::form::form_of_fragments;
+use crate::{
+    Column, Construct, Error, Fragment, Fragments, Item, Params, Unportable, Value, bind, names,
+};
 
 /// What a byte of the room holds before a call.
 const UNTOUCHED: u8 = 0xA5;
@@ -308,4 +311,29 @@ fn answers_that_end_within_a_string() {
     assert_eq!(next_string(b"\xFE\xFF\xFF\xFF\xFF\xFF\xFF\xFF\xFFa"), None);
     assert_eq!(next_string(b"\x01ab"), Some((&b"a"[..], &b"b"[..])));
     assert_eq!(next_string(b"\xFC\x01\x00ab"), Some((&b"a"[..], &b"b"[..])));
+}
+
+/// The form of identifiers and assignments, written by hand from mysql_params.h.
+#[test]
+fn forms_of_assignments() {
+    let columns = Fragment::identifiers([Column::from("a"), ["t", "b"].into()]);
+    let set = Fragment::assignments([
+        (Column::from("a"), Item::from(1)),
+        (["t", "b"].into(), "x".into()),
+        ("c".into(), Item::Decimal("-1.50")),
+    ]);
+    let given = [("columns", columns), ("set", set)];
+    let wanted = [
+        &b"\x07columns\x86\0\x02\0\0\0"[..],
+        b"\x01\0\0\0\x01a",
+        b"\x02\0\0\0\x01t\x01b",
+        b"\x03set\x87\0\x03\0\0\0",
+        b"\x01\0\0\0\x01a\x08\0\x01\0\0\0\0\0\0\0",
+        b"\x02\0\0\0\x01t\x01b\xFD\0\x01x",
+        b"\x01\0\0\0\x01c\x80\0\x05-1.50",
+    ];
+    assert_eq!(
+        form_of_fragments(&Fragments::Named(&given)),
+        Ok(wanted.concat())
+    );
 }

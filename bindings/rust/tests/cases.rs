@@ -1,7 +1,7 @@
 //! The cases of bindings/cases, which say what they are in README.md there, and every value of one byte.
 use mysql_params::{
-    Construct, Date, Error, Fault, Fragment, Fragments, Item, Names, Params, RowError, Template,
-    Texts, Time, Unportable, Value, bind, bind_anywhere, bind_form, bind_form_anywhere,
+    Column, Construct, Date, Error, Fault, Fragment, Fragments, Item, Names, Params, RowError,
+    Template, Texts, Time, Unportable, Value, bind, bind_anywhere, bind_form, bind_form_anywhere,
     bind_form_in, bind_form_in_both_modes, bind_fragments, bind_fragments_anywhere,
     bind_fragments_in, bind_in, bind_in_both_modes, bind_rows, bind_rows_in, bind_str, bind_str_in,
     first_unportable, first_unportable_in, first_unportable_in_client,
@@ -120,6 +120,20 @@ fn item(text: &str) -> Item<'static> {
     }
 }
 
+/// A name, or one in another.
+fn column(text: &str) -> Column<'static> {
+    match text.split('|').map(lasting).collect::<Vec<_>>()[..] {
+        [name] => name.into(),
+        ref names => names.to_vec().into(),
+    }
+}
+
+/// A column, and the item that it is set to.
+fn assignment(text: &str) -> (Column<'static>, Item<'static>) {
+    let (name, assigned) = text.split_once('=').expect("COLUMN=VALUE");
+    (column(name), item(assigned))
+}
+
 /// What isn't one value, if the text is of such a kind.
 fn fragment(kind: &str, rest: &str) -> Option<Fragment<'static>> {
     let items = |text: &str| text.split('|').map(item).collect();
@@ -130,6 +144,10 @@ fn fragment(kind: &str, rest: &str) -> Option<Fragment<'static>> {
         "rows" => Fragment::Rows(rest.split("||").map(items).collect()),
         "identifier" => Fragment::Identifier(lasting(rest)),
         "qualified" => Fragment::Qualified(rest.split('|').map(lasting).collect()),
+        "identifiers" if rest.is_empty() => Fragment::identifiers([""; 0]),
+        "identifiers" => Fragment::identifiers(rest.split("||").map(column)),
+        "assignments" if rest.is_empty() => Fragment::Assignments(Vec::new()),
+        "assignments" => Fragment::assignments(rest.split("||").map(assignment)),
         "keyword" => Fragment::Keyword(lasting(rest)),
         _ => return None,
     })
@@ -450,6 +468,35 @@ fn fragments_of_types() {
             "(-18446744073709551616, 1)",
         ),
         (Fragment::Qualified(vec!["a.b", "`"]), "`a.b`.````"),
+        (Fragment::identifiers(["a"]), "`a`"),
+        (
+            Fragment::identifiers(vec![["t", "a"], ["t", "b.c"]]),
+            "`t`.`a`, `t`.`b.c`",
+        ),
+        (
+            Fragment::identifiers(&[String::from("a"), String::from("b")]),
+            "`a`, `b`",
+        ),
+        (
+            Fragment::Identifiers(vec!["a".into(), vec!["t", "b"].into()]),
+            "`a`, `t`.`b`",
+        ),
+        (
+            Fragment::assignments([("a", 1), ("b", 2)]),
+            "`a` = 1, `b` = 2",
+        ),
+        (
+            Fragment::assignments([(["t", "a"], some), (["t", "b"], Some("c"))]),
+            "`t`.`a` = NULL, `t`.`b` = 'c'",
+        ),
+        (
+            Fragment::assignments([("a", u128::MAX.into()), ("b", Item::Decimal("-1.50"))]),
+            "`a` = 340282366920938463463374607431768211455, `b` = -1.50",
+        ),
+        (
+            Fragment::Assignments(vec![("a".into(), 0.5.into()), ("b".into(), "c".into())]),
+            "`a` = 0.5e0, `b` = 'c'",
+        ),
     ] {
         let text = bind_fragments(b"?", &Fragments::Positional(&[fragment])).expect("a text");
         assert_eq!(String::from_utf8(text).expect("UTF-8"), wanted);
@@ -472,6 +519,62 @@ fn fragments_of_types() {
     );
 }
 
+/// Names are counted through all columns, and each column goes before its item.
+#[test]
+fn faults_of_columns() {
+    let nothing: [(&str, i32); 0] = [];
+    let long = "x".repeat(65);
+    for (fragment, wanted) in [
+        (Fragment::identifiers([""; 0]), Fault::Empty),
+        (Fragment::assignments(nothing), Fault::Empty),
+        (Fragment::identifiers([vec!["a"], Vec::new()]), Fault::Empty),
+        (
+            Fragment::identifiers([["a", "b"], ["c", "d\0"]]),
+            Fault::ZeroByte { part: 3 },
+        ),
+        (
+            Fragment::assignments([(["t", "a"], 1), (["t", ""], 2)]),
+            Fault::EmptyName { part: 3 },
+        ),
+        (
+            Fragment::assignments([("a", 1), ("b\0", 2)]),
+            Fault::ZeroByte { part: 1 },
+        ),
+        (
+            Fragment::assignments([(["t", "a"], 1), (["t", &long], 2)]),
+            Fault::LongName { part: 3 },
+        ),
+        (
+            Fragment::assignments([
+                (["t", "a"], Item::Decimal("1")),
+                (["t", "b"], Item::Decimal("1e5")),
+            ]),
+            Fault::Number { row: 0, item: 1 },
+        ),
+        (
+            Fragment::assignments([("a", Item::Decimal("1")), ("b ", Item::Decimal(""))]),
+            Fault::TrailingSpace { part: 1 },
+        ),
+        (
+            Fragment::assignments([("a", Item::Decimal("")), ("b ", Item::Decimal(""))]),
+            Fault::Number { row: 0, item: 0 },
+        ),
+    ] {
+        let given = [1.into(), fragment];
+        let error = Error::Fault {
+            place: 1,
+            fault: wanted,
+            name: None,
+        };
+        for text in [
+            bind_fragments(b"?, ?", &Fragments::Positional(&given)),
+            bind_fragments_anywhere(b"?, ?", &Fragments::Positional(&given)),
+        ] {
+            assert_eq!(text, Err(error.clone()));
+        }
+    }
+}
+
 /// A NaN and an infinity are refused in every place; the calls that bind values refuse each float.
 #[test]
 fn floats() {
@@ -485,6 +588,7 @@ fn floats() {
             (number as f32).into(),
             vec![0.5, number].into(),
             vec![(1, 0.5), (2, number)].into(),
+            Fragment::assignments([("a", 0.5), ("b", number)]),
         ] {
             let given = [0.5.into(), fragment];
             let given = Fragments::Positional(&given);
