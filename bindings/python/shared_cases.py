@@ -68,6 +68,17 @@ def text_of(text):
     return re.sub(rb"\{([0-9A-F]+)\}", lambda found: bytes.fromhex(found[1].decode()), text.encode())
 
 
+def identifier_of(text):
+    """Return the identifier of names between bars."""
+    return mysql_params.Identifier(*(text_of(part).decode() for part in text.split("|")))
+
+
+def column_of(text):
+    """Return the column of names between bars: a str if it is one name."""
+    names = identifier_of(text)
+    return names.parts[0] if len(names.parts) == 1 else names
+
+
 def value_of(text):
     """Return the value of a parameter as Python has it."""
     kind, _, rest = text.partition(":")
@@ -82,7 +93,12 @@ def value_of(text):
     if kind == "rows":
         return [tuple(value_of(item) for item in row.split("|")) for row in rest.split("||")]
     if kind in ("identifier", "qualified"):
-        return mysql_params.Identifier(*(text_of(part).decode() for part in rest.split("|")))
+        return identifier_of(rest)
+    if kind == "identifiers":
+        return [identifier_of(names) for names in rest.split("||") if rest]
+    if kind == "assignments":
+        pairs = [pair.partition("=") for pair in rest.split("||") if rest]
+        return mysql_params.Assignments([(column_of(names), value_of(value)) for names, _, value in pairs])
     if kind == "keyword":
         return mysql_params.Keyword(rest, among=(rest, "ASC"))
     if kind == "date":

@@ -14,8 +14,8 @@ import sys
 import tracemalloc
 import unittest
 
-from mysql_params import Identifier, Template, bind, bind_anywhere, bind_form, bind_in_both_modes, bind_rows, first_unportable
-from mysql_params import names
+from mysql_params import Assignments, Identifier, Template, bind, bind_anywhere, bind_form, bind_in_both_modes, bind_rows
+from mysql_params import first_unportable, names
 from test_mysql_params import Result
 
 COUNT = int(os.environ.get("LEAKS", "4000"))
@@ -25,6 +25,7 @@ MOST = 3000
 MOMENT = datetime.datetime(2019, 11, 27, 1, 2, 3, 4)
 VALUES = [None, True, 7, 1 << 63, 0.5, "it's", b"\xff", MOMENT, MOMENT.date(), MOMENT.time(), datetime.timedelta(-1)]
 MORE = [*VALUES, decimal.Decimal("1.5"), 1 << 70, [1, "a"], [(1, 2), [3, 4]], Identifier("a", "b"), bytearray(b"a")]
+MORE += [[Identifier("a"), Identifier("b")], Assignments({"a": 1, Identifier("t", "b"): "x"})]
 LONG = "x" * (1 << 17)
 TEMPLATE = Template(":a")
 
@@ -82,6 +83,10 @@ REFUSALS = {
     "rows that end": lambda: bind_rows("?", rows_that_end()),
     "value": lambda: bind("?", [*MORE, Odd()]),
     "item": lambda: bind("?", [[1, Odd()]]),
+    "identifiers and a value": lambda: bind("?", [[Identifier("a"), 1]]),
+    "assignment": lambda: bind("?", [Assignments({"a": 1, "b": [1]})]),
+    "assignments": lambda: bind("?", [Assignments({})]),
+    "no assignments": lambda: Assignments([1]),
     "lone surrogate": lambda: bind("?", ["\ud800"]),
     "name": lambda: bind(":a", {"a": 1, 5: 2}),
     "empty name": lambda: bind(":a", {"": 1}),

@@ -8,7 +8,7 @@ import types
 import unittest
 
 import mysql_params
-from mysql_params import Fault, Identifier, execute_rows, executemany
+from mysql_params import Assignments, Fault, Identifier, execute_rows, executemany
 from test_mysql_params import Result
 from test_sending import NONE, Connection, Connector, MySQLCursorPrepared, PyMySQL
 
@@ -55,10 +55,12 @@ class Test(unittest.TestCase):
             (MOMENT, datetime.date(2019, 1, 2)),
             (0.25, "a"),
             [[1, -0.5], 1e16],
+            ([Identifier("a"), Identifier("b")], Assignments({"a": 1})),
         ]
         executemany(connection.cursor(), "SELECT ?, ?", rows, zone=datetime.timezone.utc)
         texts = [b"1, 'a'", b"0.10, 1180591620717411303424", b"0xFF, NULL", b"3, 4", b"`a```, 1, 2"]
         texts += [b"'2019-11-27 23:30:00', '2019-01-02'", b"0.25e0, 'a'", b"1, -0.5e0, 1e16"]
+        texts += [b"`a`, `b`, `a` = 1"]
         self.assertEqual(connection.sent, [b"SELECT " + text for text in texts])
         connection = PyMySQL(NONE)
         executemany(connection.cursor(), ":a", [{"a": "\\'"}, {b"a": "x", "b": 2}])
@@ -236,6 +238,11 @@ class Test(unittest.TestCase):
             execute_rows(connection.cursor(), query, rows, beside)
             wanted = b"INSERT INTO `s`.`t` VALUES (1, 'x'), (2, NULL) ON DUPLICATE KEY UPDATE a = 1.50, b = 1.50"
             self.assertEqual(connection.sent, [wanted])
+        rows = [{"i": 1, "n`": "x"}, {"n`": None, "i": 2}]
+        beside = {"columns": list(map(Identifier, rows[0])), "set": Assignments({"n`": 0.5})}
+        execute_rows(connection.cursor(), "INSERT INTO t (:columns) VALUES :rows ON DUPLICATE KEY UPDATE :set", rows, beside)
+        wanted = b"INSERT INTO t (`i`, `n```) VALUES (1, 'x'), (2, NULL) ON DUPLICATE KEY UPDATE `n``` = 0.5e0"
+        self.assertEqual(connection.sent[-1], wanted)
         for nothing in (None, {}):
             execute_rows(connection.cursor(), ROWS, [(1,)], nothing)
             self.assertEqual(connection.sent[-1], b"INSERT INTO t VALUES (1)")

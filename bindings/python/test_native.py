@@ -17,7 +17,7 @@ import uuid
 from unittest import mock
 
 import mysql_params
-from mysql_params import Identifier, Keyword, _archive, _form, _fragments, _many, _native, _values, bind, bind_anywhere
+from mysql_params import Assignments, Identifier, Keyword, _archive, _form, _fragments, _many, _native, _values, bind, bind_anywhere
 from mysql_params import bind_rows
 from test_mysql_params import Result
 
@@ -66,8 +66,16 @@ OTHERS += [1j, {1}, frozenset(), {1: 2}, range(2), iter(()), Identifier("t"), Id
 OTHERS += [Keyword("ASC", among=("ASC",)), Identifier("\ud800")]
 VALUES = STRINGS + [string.encode("utf-8", "surrogatepass") for string in STRINGS] + NUMBERS + FLOATS + DATES + TIMES + SPANS
 VALUES += [decimal.Decimal(digits) for digits in DECIMALS] + OTHERS
+SETS = [{}, {"a": 1}, {"a": 1, Identifier("t", "b"): "x", "": None}, {"\ud800": 1}, {"x" * 300: 0.5}, {Text("a"): Number(5)}]
+SETS += [{"a": value} for value in ([1], (), Identifier("t"), Keyword("ASC", among=("ASC",)), Assignments({"b": 1}), {1: 2}, {1})]
+SETS += [{"a": value, Identifier("\ud800", "t"): [1]} for value in (decimal.Decimal("1.5"), 1 << 70, float("nan"), Color.RED, 7)]
+OTHERS += [Assignments(columns) for columns in SETS]
+VALUES += OTHERS[-len(SETS) :]
 LISTS = [[], (), [1, "a", None], (0.5, b"x"), [decimal.Decimal("1.5"), 1 << 70], [(1, 2), [3, "a"]], ((),), [[1], 2], [1, [2]]]
 LISTS += [[{1}], [(1, {1})], [[(1,)]], [Identifier("t")], [Pair(1, 2), (3, 4)], Pair(1, 2), Pair((1,), [2]), [Number(1), Text("a")]]
+LISTS += [[Identifier("t"), Identifier("a", "b")], (Identifier("\u20ac"),), [Identifier("t"), 1], [1, Identifier("t")]]
+LISTS += [[Identifier("t"), Point()], [Identifier("t"), Identifier("\ud800")], [[Identifier("t")]], [Identifier("t"), (1,)]]
+LISTS += [[Keyword("ASC", among=("ASC",))], [Identifier("x" * 300)] * 300, [Color.RED, Identifier("t")], [Assignments({"a": 1})]]
 LISTS += [collections.UserList([1]), collections.deque([1]), [DATES[5], TIMES[1], SPANS[4]], [float("nan")], [True, [1]]]
 
 
@@ -81,7 +89,7 @@ def outcome(call):
 
 def is_of_fragments(form):
     """Return whether a parameter without a name is for the calls that bind fragments, by its type and value."""
-    return 128 <= form[1] <= 133 or form[1] == 5 and form[2:] not in map(not_finite, FLOATS[-3:])
+    return 128 <= form[1] <= 135 or form[1] == 5 and form[2:] not in map(not_finite, FLOATS[-3:])
 
 
 def not_finite(number):
@@ -193,9 +201,19 @@ class Test(unittest.TestCase):
         for kind, function in ((Point, lambda point: 5), (decimal.Decimal, str), (list, repr), (tuple, len), (Color, str)):
             mysql_params.register(kind, function)
         mysql_params.register(datetime.time, str)
+        mysql_params.register(decimal.Context, lambda context: Identifier("t", "a"))
         for value in (Point(), decimal.Decimal("1.5"), [1, 2], (1, 2), Color.RED, datetime.time(1), [Point()], 5, "a"):
             self.compare(value)
         self.assertEqual(bind("?, ?, ?", [[1], (1,), datetime.time(1)]), b"'[1]', 1, '01:00:00'")
+        del _values._REGISTERED[list]
+        names, moment = [decimal.Context(), Identifier("b")], datetime.time(1)
+        for value in (names, names[::-1], [names[0], 1], [1, names[0]], [moment, 1], Assignments({"a": Point(), "b": names[0]})):
+            self.compare(value)
+        self.assertEqual(bind("?", [names]), b"`t`.`a`, `b`")
+        mysql_params.register(datetime.time, lambda time: Identifier("c"))
+        mysql_params.register(list, repr)
+        for value in (Assignments({"a": [1]}), (moment, names[0]), (Color.RED, moment)):
+            self.compare(value)
 
     def test_forms_of_rows(self):
         for row in LISTS:
@@ -224,6 +242,9 @@ class Test(unittest.TestCase):
         items[:] = [[Point(), 1], 2]
         mysql_params.register(Point, lambda point: bind("?, ?", ["x" * 100, 3]))
         self.assertEqual(bind("?; ?", [items[0], 4]), b"'\\'" + b"x" * 100 + b"\\', 3', 1; 4")
+        items[:] = [Point(), 1, 2]
+        mysql_params.register(Point, lambda point: items.clear())
+        self.assertEqual(bind("?", [items]), b"NULL, 1, 2")
 
     def test_iterators_that_raise(self):
         def rows():

@@ -276,6 +276,9 @@ class Test(unittest.TestCase):
     def test_fragments(self):
         sent = self.send(PyMySQL(), "SELECT ? IN (?)", [mysql_params.Identifier("a"), [1, 2]])
         self.assertEqual(sent, b"SELECT `a` IN (1, 2)")
+        given = {"set": mysql_params.Assignments({"a": HOSTILE}), "columns": [mysql_params.Identifier("b")]}
+        sent = self.send(PyMySQL(), "UPDATE t SET :set ORDER BY :columns", given)
+        self.assertEqual(sent, WITH_BACKSLASHES.replace(b"SELECT", b"UPDATE t SET `a` =") + b" ORDER BY `b`")
         self.assertEqual(self.send(PyMySQL(), "SELECT :a", {"a": 0.1}), b"SELECT 0.1e0")
         with self.assertRaises(mysql_params.FloatError):
             self.send(PyMySQL(), "SELECT :a", {"a": float("inf")})

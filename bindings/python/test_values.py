@@ -12,7 +12,7 @@ import uuid
 from unittest import mock
 
 import mysql_params
-from mysql_params import _values, bind, decimal_text, register
+from mysql_params import _native, _values, bind, decimal_text, register
 from shared_cases import CASES
 from test_mysql_params import Result
 
@@ -52,6 +52,18 @@ class Color(enum.Enum):
     NAMED = "it's"
     NOTHING = None
     PRICE = decimal.Decimal("0.01")
+
+
+class Text(str, enum.Enum):
+    """A str that is a member."""
+
+    NAME = "it's"
+
+
+class Named(mysql_params.Identifier):
+    """A subclass."""
+
+    __slots__ = ()
 
 
 class Wide:
@@ -101,7 +113,12 @@ class Test(unittest.TestCase):
             (range(2), TypeError, "is a range, which is no list: give list(..) of it"),
             ((number for number in (1, 2)), TypeError, "is a generator, which is no list: give list(..) of it"),
             ({1: 2}.values(), TypeError, "is a dict_values, which is no list: give list(..) of it"),
-            ({1: 2}, TypeError, "is of type dict, which has no literal: give json.dumps(..) of it, or register(dict, json.dumps)"),
+            (
+                {1: 2},
+                TypeError,
+                "the value for place 0 is of type dict, which has no literal: for SET give Assignments(..) of it, else json.dumps(..)"
+                " of it, or register(dict, json.dumps)",
+            ),
         ):
             with self.subTest(value=value), self.assertRaises(kind) as raised:
                 bind("?", [value])
@@ -112,6 +129,8 @@ class Test(unittest.TestCase):
             (Color.PRICE, "the value for place 0 is a Decimal, which has no literal: give str"),
             ([1], "the value for place 0 is a list, which has no literal: write a place for each of its values"),
             (mysql_params.Identifier("t"), "the value for place 0 is of type Identifier, which has no literal"),
+            (mysql_params.Assignments({"a": 1}), "the value for place 0 is of type Assignments, which has no literal"),
+            ({1: 2}, "the value for place 0 is of type dict, which has no literal: give json.dumps(..) of it, or register(dict"),
         ):
             for call in (mysql_params.bind_in_both_modes, lambda query, given: mysql_params.bind_rows(query, [given])):
                 with self.subTest(value=value), self.assertRaises(TypeError) as raised:
@@ -322,12 +341,15 @@ class Test(unittest.TestCase):
                 self.assertEqual(bind(":a", {"a": value}), wanted)
 
     def test_lists_that_are_refused(self):
-        to_do = "lists and rows are of values, so write a place for each"
+        to_do = "lists and rows are of values, or a list of Identifiers alone, so write a place for each"
         for value, message in (
             ([(1,), 2], "the value of `:a` has rows and values: give a list of values, or one of rows alone"),
             ([[(1,)]], "the value of `:a` has a tuple in a row: rows are of values"),
             ([{1}], "the value of `:a` is a set, which has no literal"),
             ([1, mysql_params.Identifier("t")], "the value of `:a` has an item that is of type Identifier: " + to_do),
+            ([mysql_params.Identifier("t"), 1], "the value of `:a` has an item that is of type Identifier: " + to_do),
+            ([[mysql_params.Identifier("t")]], "the value of `:a` has an item that is of type Identifier: " + to_do),
+            ([mysql_params.Assignments({"b": 1})], "the value of `:a` has an item that is of type Assignments: " + to_do),
             ([(mysql_params.Keyword("NULL", among=("NULL",)),)], "the value of `:a` has an item that is of type Keyword: " + to_do),
         ):
             with self.subTest(value=value), self.assertRaises(TypeError) as raised:
@@ -335,6 +357,105 @@ class Test(unittest.TestCase):
             self.assertIn(message, str(raised.exception))
         names = [mysql_params.Identifier("a"), mysql_params.Identifier("b`")]
         self.assertEqual(bind(f"SELECT {', '.join('?' * len(names))}", names), b"SELECT `a`, `b```")
+
+    def test_lists_of_identifiers(self):
+        a, b, others = mysql_params.Identifier("a"), mysql_params.Identifier("t", "b`"), [Named("a", "b`"), Named("c")]
+        for value, wanted in (([a], b"`a`"), ((a, b), b"`a`, `t`.`b```"), ([a] * 3, b"`a`, `a`, `a`"), (others, b"`a`.`b```, `c`")):
+            for call in (bind, mysql_params.bind_anywhere, lambda query, given: mysql_params.Template(query).bind(given)):
+                with self.subTest(value=value):
+                    self.assertEqual(call("?, ?", [value, 1]), wanted + b", 1")
+                    self.assertEqual(call(":a", {"a": value}), wanted)
+
+        class Column:
+            pass
+
+        class Other:
+            __class__ = mysql_params.Identifier
+
+        register(Column, lambda column: b)
+        self.assertEqual(bind("?", [[Column(), a, Column()]]), b"`t`.`b```, `a`, `t`.`b```")
+        for value in ([Other()], [a, Other()]):
+            with self.subTest(value=value), self.assertRaises(TypeError):
+                bind("?", [value])
+
+    def test_assignments(self):
+        identifier = mysql_params.Identifier
+        for assigned, wanted in (
+            ({"a": 1}, b"`a` = 1"),
+            ({"a`": "it's", identifier("t", "b"): None}, b"`a``` = 'it\\'s', `t`.`b` = NULL"),
+            ([("a", 0.5), [identifier("b"), decimal.Decimal("1.50")]], b"`a` = 0.5e0, `b` = 1.50"),
+            ((pair for pair in [("a", 2**70)]), b"`a` = 1180591620717411303424"),
+            ({"a": 1, "b": 2}.items(), b"`a` = 1, `b` = 2"),
+            ({Text.NAME: Color.NAMED}, b"`it's` = 'it\\'s'"),
+            ({"a, b": datetime.date(2019, 11, 27)}, b"`a, b` = '2019-11-27'"),
+        ):
+            value = mysql_params.Assignments(assigned)
+            for call in (bind, lambda query, given: mysql_params.Template(query).bind(given)):
+                with self.subTest(wanted=wanted):
+                    self.assertEqual(call("SET ? WHERE ?", [value, 1]), b"SET " + wanted + b" WHERE 1")
+                    self.assertEqual(call("SET :a, :a", {"a": value}), b"SET " + wanted + b", " + wanted)
+        steady = mysql_params.bind_anywhere("SET ?", [mysql_params.Assignments({"a": "it's", "b": "\u00e9"})])
+        self.assertEqual(steady, b"SET `a` = _utf8mb4'it''s', `b` = _utf8mb4 0xC3A9")
+        self.assertEqual(repr(mysql_params.Assignments({"a": 1})), "Assignments(((Identifier('a'), 1),))")
+        # What is changed later isn't seen.
+        given = {"a": 1}
+        value = mysql_params.Assignments(given)
+        given["b"] = 2
+        self.assertEqual(bind("?", [value]), b"`a` = 1")
+        # What is registered counts.
+        register(dict, lambda value: str(len(value)))
+        self.assertEqual(bind("?", [mysql_params.Assignments({"a": {1: 2}})]), b"`a` = '1'")
+
+    def test_assignments_that_are_refused(self):
+        keyword = mysql_params.Keyword("NULL", among=("NULL",))
+        for value, kind in (
+            ([1], "list"),
+            ((), "tuple"),
+            (mysql_params.Identifier("t"), "Identifier"),
+            (keyword, "Keyword"),
+            (mysql_params.Assignments({"b": 1}), "Assignments"),
+        ):
+            for column, shown in (("a\u00e9", "`a\\xc3\\xa9`"), (mysql_params.Identifier("t", "b"), "`t`.`b`")):
+                with self.subTest(kind=kind), self.assertRaises(TypeError) as raised:
+                    bind(":set", {"set": mysql_params.Assignments({"x": 1, column: value})})
+                message = f"the value of `:set` sets {shown} to a value of type {kind}: a column takes one value"
+                self.assertEqual(str(raised.exception), message)
+        for value, kind, message in (
+            ({1, 2}, TypeError, "the value for place 0 is a set, which has no literal"),
+            ({"b": 1}, TypeError, "the value for place 0 is of type dict, which has no literal: give json.dumps(..) of it"),
+            (10**65, OverflowError, "the value for place 0 is a whole number of more than 65 digits"),
+            (decimal.Decimal("NaN"), ValueError, "the value for place 0: a Decimal that is NaN has no digits"),
+            ("\ud800", UnicodeEncodeError, "in the value for place 0"),
+            (float("nan"), mysql_params.FloatError, "Float at place 0"),
+        ):
+            with self.subTest(value=value), self.assertRaises(kind) as raised:
+                bind("?", [mysql_params.Assignments({"a": value})])
+            self.assertIn(message, str(raised.exception))
+        with self.assertRaises(UnicodeEncodeError):
+            bind("?", [mysql_params.Assignments({"\ud800": 1})])
+        for assigned in (5, "ab", ["ab"], [("a",)], [("a", 1, 2)], {5: 1}, {b"a": 1}, {None: 1}, [(keyword, 1)], None):
+            with self.subTest(assigned=assigned), self.assertRaises(TypeError):
+                mysql_params.Assignments(assigned)
+        with self.assertRaises(mysql_params.FragmentError) as raised:
+            bind(":set", {"set": mysql_params.Assignments({})})
+        self.assertEqual(str(raised.exception), "Fragment at place 0 can't be written: it is empty: the value of `:set`")
+        with self.assertRaises(mysql_params.FragmentError) as raised:
+            bind("?", [mysql_params.Assignments([(mysql_params.Identifier("t", "a"), 1), ("b\0", 2)])])
+        self.assertEqual((raised.exception.fault, raised.exception.item), (mysql_params.Fault.ZERO_BYTE, 2))
+        with self.assertRaises(mysql_params.FragmentError) as raised:
+            bind("?", [[mysql_params.Identifier("t", "a"), mysql_params.Identifier("b\0")]])
+        self.assertEqual((raised.exception.fault, raised.exception.item), (mysql_params.Fault.ZERO_BYTE, 2))
+
+    def test_forms_by_hand(self):
+        """The form of identifiers and assignments, written by hand from mysql_params.h."""
+        identifier = mysql_params.Identifier
+        columns = [identifier("a"), identifier("t", "b")]
+        assigned = mysql_params.Assignments([("a", 1), (identifier("t", "b"), "x"), ("c", decimal.Decimal("-1.50"))])
+        one, two, three = (bytes([count, 0, 0, 0]) for count in (1, 2, 3))
+        wanted = b"\x07columns\x86\0" + two + one + b"\x01a" + two + b"\x01t\x01b"
+        wanted += b"\x03set\x87\0" + three + one + b"\x01a\x08\0\x01" + bytes(7)
+        wanted += two + b"\x01t\x01b\xfd\0\x01x" + one + b"\x01c\x80\0\x05-1.50"
+        self.assertEqual(_native.written({"columns": columns, "set": assigned}, None, True), (wanted, True))
 
     def test_many_items(self):
         numbers = list(range(-50_000, 50_000))

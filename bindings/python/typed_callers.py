@@ -10,7 +10,7 @@ from collections import OrderedDict
 from typing import Any, Optional, Union
 
 import mysql_params
-from mysql_params import Identifier, Keyword, Params, Template, Value
+from mysql_params import Assignments, Identifier, Keyword, Params, Template, Value
 from mysql_params import bind, bind_anywhere, bind_form, bind_in_both_modes, bind_rows, first_unportable, names
 
 QUERY = "SELECT * FROM t WHERE id = :id AND name = :name"
@@ -90,6 +90,17 @@ def fragments(idents: list[int], prices: list[tuple[int, decimal.Decimal]], colu
     words: tuple[str, ...] = mysql_params.KEYWORDS
     direction = Keyword("DESC", among=words)
     bind("ORDER BY :column :direction", {"column": Identifier("t", column), "direction": direction})
+    bind("SELECT ? FROM t", [[Identifier(column), Identifier("t", "a")]])
+    bind("SELECT :columns FROM t", {"columns": (Identifier(column),)})
+    prices: dict[str, decimal.Decimal] = {"price": decimal.Decimal("9.99")}
+    bind("SET ? WHERE id = ?", [Assignments(prices), 1])
+    bind("SET ?", [Assignments({"name": column, "price": 9, "sold": None})])
+    bind("SET ?", [Assignments({Identifier("t", "a"): 1, Identifier("b"): "x"})])
+    bind("SET :set", {"set": Assignments({"a": 1, Identifier("t", "b"): "x"})})
+    pairs: list[tuple[str, object]] = [("a", 1), ("b", "x")]
+    bind("SET ?", [Assignments(pairs)])
+    assigned = Assignments((name, 0) for name in (column, "b"))
+    print([column.parts for column, _ in assigned.pairs])
     return bind("SELECT a FROM ? ORDER BY ? ?", [Identifier("t"), Identifier(column), direction])
 
 
@@ -163,6 +174,9 @@ def refused(ident: int) -> None:
     mysql_params.execute_rows(None, "VALUES ?", ident)  # type: ignore[arg-type]
     mysql_params.execute_rows(None, "VALUES ?", [[1]], [1])  # type: ignore[arg-type]
     Keyword("DESC")  # type: ignore[call-arg]
+    Assignments({1: 2})  # type: ignore[dict-item]
+    Assignments([ident])  # type: ignore[list-item]
+    Assignments()  # type: ignore[call-arg]
     bind_form("?", "x")  # type: ignore[arg-type]
     names(5)  # type: ignore[arg-type]
     text: str = bind("?", [ident])  # type: ignore[assignment]

@@ -26,7 +26,7 @@ from collections.abc import Iterable, Iterator, Mapping, Sequence, ValuesView
 from typing import NamedTuple, NoReturn, Optional, Union
 
 from . import _archive, _form, _native
-from ._fragments import KEYWORDS, Identifier, Keyword
+from ._fragments import KEYWORDS, Assignments, Identifier, Keyword
 from ._many import execute_rows, executemany
 from ._sending import DelimiterError, PacketError, SessionError, ask_again, exec_driver_sql, execute
 from ._template import Template
@@ -59,6 +59,7 @@ from .portable import Construct, Unportable
 __version__ = "0.1.0"
 
 __all__ = [
+    "Assignments",
     "BackslashError",
     "Construct",
     "DelimiterError",
@@ -225,7 +226,8 @@ def bind(
 
     A place takes more than one value: a list or a tuple of values for IN (``a IN (?)``), a list of lists or tuples of
     values as rows (``VALUES ?``), a Decimal, which is written bare so that it is compared and computed exactly, as is an int
-    of more than 64 bits, an Identifier, and a Keyword. Items may be such numbers. A str, bytes or a set is no list.
+    of more than 64 bits, an Identifier, a list or a tuple of these, Assignments (``SET ?``), and a Keyword. Items may be such
+    numbers. A str, bytes or a set is no list.
 
     A datetime with a time zone is refused, unless zone is given, which is that of the connection (@@time_zone): then it
     is bound as the clocks there show it; ValueError for one that they show twice, or never. One without a zone is bound
@@ -261,7 +263,7 @@ def bind_anywhere(
     docs/LIMITS.md says where a server takes no such literal. The zone is as for bind.
 
     Of the parameters it raises what bind raises. Then, of the query, the first that holds: UnsteadyError; UnportableError;
-    those of bind from MixedError on; UnsteadyFragmentError, for an Identifier that isn't ASCII without a backslash. In
+    those of bind from MixedError on; UnsteadyFragmentError, for a name that isn't ASCII without a backslash. In
     place of any of them, and of a text, OutOfMemoryError.
 
     >>> bind_anywhere("SELECT ?, ?", ["it's", "\u00e9"])

@@ -1,4 +1,4 @@
-"""What stands in a place beside one value: lists, rows, exact numbers, identifiers and keywords.
+"""What stands in a place beside one value: lists, rows, exact numbers, identifiers, assignments and keywords.
 
 A finite float is a value here, which the same calls write.
 """
@@ -12,20 +12,23 @@ from typing import Optional, Union
 
 from . import _form
 from ._values import decimal_text, plain
+from .errors import _show
 
 # The types of the flat form that are no column types: see mysql_params_bind_fragments in mysql_params.h.
-_NUMBER, _LIST, _ROWS, _IDENTIFIER, _QUALIFIED, _KEYWORD = range(128, 134)
+_NUMBER, _LIST, _ROWS, _IDENTIFIER, _QUALIFIED, _KEYWORD, _IDENTIFIERS, _ASSIGNMENTS = range(128, 136)
 
 
 class Identifier:
     """The name of a table or a column, and before it that of what it is in: ``Identifier("db", "t")``.
 
     It is written in backquotes, each of which in a name is doubled: ``Identifier("a`b")`` is the column of this name.
-    A point in a name is a part of it.
+    A point in a name is a part of it. A list or tuple of them is written with commas in between.
 
     >>> import mysql_params
     >>> mysql_params.bind("SELECT ? FROM ?", [Identifier("name"), Identifier("shop", "customer")])
     b'SELECT `name` FROM `shop`.`customer`'
+    >>> mysql_params.bind("SELECT ? FROM t", [[Identifier("id"), Identifier("t", "name")]])
+    b'SELECT `id`, `t`.`name` FROM t'
     """
 
     __slots__ = ("parts",)
@@ -40,6 +43,50 @@ class Identifier:
 
     def __repr__(self) -> str:
         return f"Identifier({', '.join(map(repr, self.parts))})"
+
+
+_Column = Union[str, Identifier]
+
+
+class Assignments:
+    """Columns and what they are set to, for ``SET ?``: ``Assignments({"price": 7, "sold": None})``, or pairs of these.
+
+    A column is a str, which is one name, or an Identifier. What it is set to is a value or an exact number, as an item of a
+    list. At least one is wanted: none are a FragmentError.
+
+    >>> import mysql_params
+    >>> changed = Assignments({"price": 7, Identifier("item", "sold"): None})
+    >>> mysql_params.bind("UPDATE item SET ? WHERE id = ?", [changed, 42])
+    b'UPDATE item SET `price` = 7, `item`.`sold` = NULL WHERE id = 42'
+    """
+
+    __slots__ = ("pairs",)
+    pairs: tuple[tuple[Identifier, object], ...]
+    """The columns, and what they are set to."""
+
+    def __init__(
+        self,
+        assigned: Union[
+            Mapping[str, object], Mapping[Identifier, object], Mapping[_Column, object], Iterable[tuple[_Column, object]]
+        ],
+    ) -> None:
+        """Take what columns are set to."""
+        self.pairs = tuple(map(_pair, assigned.items() if isinstance(assigned, Mapping) else assigned))
+
+    def __repr__(self) -> str:
+        return f"Assignments({self.pairs!r})"
+
+
+def _pair(pair: object) -> tuple[Identifier, object]:
+    """Return a column and what it is set to."""
+    if not isinstance(pair, (tuple, list)) or len(pair) != 2:
+        raise TypeError("Assignments are made of a mapping, or of pairs of a column and a value")
+    column, value = pair
+    if isinstance(column, str):
+        column = Identifier(column)
+    if not issubclass(type(column), Identifier):
+        raise TypeError(f"a column is a str or an Identifier, and not {type(column).__name__}")
+    return column, value
 
 
 KEYWORDS = (
@@ -82,7 +129,7 @@ class Keyword:
 _NO_LISTS = (str, bytes, bytearray, memoryview, Mapping)
 """The types of which each is more than what it consists of."""
 
-_FRAGMENTS = (decimal.Decimal, list, tuple, Identifier, Keyword)
+_FRAGMENTS = (decimal.Decimal, list, tuple, Identifier, Assignments, Keyword)
 """The types of what isn't one value."""
 
 
@@ -133,14 +180,14 @@ def _wide_number(value: object, which: Union[bytes, int]) -> Optional[bytes]:
 
 
 def item_form(value: object, which: Union[bytes, int], zone: Optional[datetime.tzinfo]) -> bytes:
-    """Return type, flags and value of an item of a list or a row."""
+    """Return type, flags and value of an item of a list or a row, or of what a column is set to."""
     value = plain(value)
     if isinstance(value, decimal.Decimal):
         return _number(value, which)
     if isinstance(value, (list, tuple)):
         raise TypeError(f"{_form.place(which)} has a {type(value).__name__} in a row: rows are of values")
-    if isinstance(value, (Identifier, Keyword)):
-        kind, to_do = type(value).__name__, "lists and rows are of values, so write a place for each"
+    if isinstance(value, (Identifier, Assignments, Keyword)):
+        kind, to_do = type(value).__name__, "lists and rows are of values, or a list of Identifiers alone, so write a place for each"
         raise TypeError(f"{_form.place(which)} has an item that is of type {kind}: {to_do}")
     wide = _wide_number(value, which)
     return _form.value_form(value, which, zone) if wide is None else wide
@@ -157,16 +204,49 @@ def rows_form(rows: list[bytes]) -> bytes:
     return bytes([_ROWS, 0]) + _count(len(rows)) + b"".join(rows)
 
 
+def _names(parts: tuple[str, ...], which: Union[bytes, int]) -> bytes:
+    """Return the count of names, and these."""
+    return _count(len(parts)) + b"".join([_text(part, which) for part in parts])
+
+
+def _identifiers(values: tuple[object, ...], which: Union[bytes, int]) -> Optional[bytes]:
+    """Return type, flags and the rest of identifiers; None of what aren't identifiers alone."""
+    if not values or not issubclass(type(values[0]), Identifier):
+        return None
+    made = [plain(value) for value in values]
+    found = [value for value in made if isinstance(value, Identifier) and issubclass(type(value), Identifier)]
+    if len(found) < len(made):
+        return None
+    return bytes([_IDENTIFIERS, 0]) + _count(len(found)) + b"".join([_names(one.parts, which) for one in found])
+
+
 def _list(
-    values: Union[list[object], tuple[object, ...]], which: Union[bytes, int], zone: Optional[datetime.tzinfo]
+    given: Union[list[object], tuple[object, ...]], which: Union[bytes, int], zone: Optional[datetime.tzinfo]
 ) -> bytes:
-    """Return type, flags and items of a list, or rows of lists and tuples."""
+    """Return type, flags and items of a list, or rows of lists and tuples, or identifiers."""
+    values = tuple(given)  # A registered function may change what is given.
     rows = [value for value in values if isinstance(value, (list, tuple))]
-    if not rows:
-        return bytes([_LIST, 0]) + _items(values, which, zone)
-    if len(rows) < len(values):
-        raise TypeError(f"{_form.place(which)} has rows and values: give a list of values, or one of rows alone")
-    return rows_form([_items(row, which, zone) for row in rows])
+    if rows:
+        if len(rows) < len(values):
+            raise TypeError(f"{_form.place(which)} has rows and values: give a list of values, or one of rows alone")
+        return rows_form([_items(row, which, zone) for row in rows])
+    values = (*map(plain, values[:1]), *values[1:])
+    identifiers = _identifiers(values, which)
+    return bytes([_LIST, 0]) + _items(values, which, zone) if identifiers is None else identifiers
+
+
+def _assignments(
+    pairs: tuple[tuple[Identifier, object], ...], which: Union[bytes, int], zone: Optional[datetime.tzinfo]
+) -> bytes:
+    """Return type, flags and the rest of assignments."""
+    made = []
+    for column, given in pairs:
+        value = plain(given)
+        if issubclass(type(value), (list, tuple, Identifier, Assignments, Keyword)):
+            names = ".".join(f"`{_show(part.encode(errors='backslashreplace'))}`" for part in column.parts)
+            raise TypeError(f"{_form.place(which)} sets {names} to a value of type {type(value).__name__}: a column takes one value")
+        made.append(_names(column.parts, which) + item_form(value, which, zone))
+    return bytes([_ASSIGNMENTS, 0]) + _count(len(made)) + b"".join(made)
 
 
 def fragment_form(value: object, which: Union[bytes, int], zone: Optional[datetime.tzinfo]) -> Optional[bytes]:
@@ -183,8 +263,9 @@ def fragment_form(value: object, which: Union[bytes, int], zone: Optional[dateti
     if isinstance(value, Identifier):
         if len(value.parts) == 1:
             return bytes([_IDENTIFIER, 0]) + _text(value.parts[0], which)
-        names = [_text(part, which) for part in value.parts]
-        return bytes([_QUALIFIED, 0]) + _count(len(names)) + b"".join(names)
+        return bytes([_QUALIFIED, 0]) + _names(value.parts, which)
+    if isinstance(value, Assignments):
+        return _assignments(value.pairs, which, zone)
     if isinstance(value, Keyword):
         return bytes([_KEYWORD, 0]) + _text(value.word, which)
     return None
@@ -196,6 +277,9 @@ def place_form(value: object, which: Union[bytes, int], zone: Optional[datetime.
     made = fragment_form(value, which, zone)
     if made is not None:
         return made
+    if issubclass(type(value), dict):
+        to_do = "for SET give Assignments(..) of it, else json.dumps(..) of it, or register(dict, json.dumps)"
+        raise TypeError(f"{_form.place(which)} is of type {type(value).__name__}, which has no literal: {to_do}")
     if issubclass(type(value), Iterable) and not issubclass(type(value), _NO_LISTS):
         kind = type(value).__name__
         raise TypeError(f"{_form.place(which)} is a {kind}, which is no list: give list(..) of it")

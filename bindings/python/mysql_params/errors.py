@@ -288,10 +288,10 @@ class UnportableError(Error):
 
 
 class Fault(enum.IntEnum):
-    """What is wrong with a list, rows, an exact number, an identifier or a keyword."""
+    """What is wrong with a list, rows, an exact number, identifiers, assignments or a keyword."""
 
     EMPTY = 1
-    """A list without items, or no rows."""
+    """A list without items, no rows, or no assignments."""
     EMPTY_ROW = 2
     """A row without items."""
     ROW_LENGTH = 3
@@ -327,9 +327,9 @@ _FAULTS = {
 
 
 class FragmentError(Error):
-    """A list, rows, an exact number, an identifier or a keyword for the place `place` can't be written.
+    """What isn't one value, as a list or an Identifier, for the place `place` can't be written.
 
-    `fault` says why, `in_row` in which row, and `item` in which item, or name of an identifier; if there is none they
+    `fault` says why, `in_row` in which row, and `item` in which item, assignment or name, of all names; if there is none they
     are 0.
     """
 
@@ -349,7 +349,7 @@ class FragmentError(Error):
 
 
 class UnsteadyFragmentError(Error):
-    """The Identifier for the place `place` has a backslash or a character that isn't ASCII. It is of bind_anywhere alone."""
+    """A name for the place `place` has a backslash or a character that isn't ASCII. It is of bind_anywhere alone."""
 
     number = 19
     place: int

@@ -133,7 +133,7 @@ enum {
     TYPE_NUMBER = 128,
     TYPE_LIST = 129,
     TYPE_ROWS = 130,
-    TYPE_KEYWORD = 133,
+    TYPE_ASSIGNMENTS = 135,
     TYPE_VAR_STRING = 253
 };
 
@@ -163,7 +163,7 @@ bool write_value(const writer *writer, PyObject *value, const place *place);
 /* Appends the count of items, and these. */
 bool write_items(const writer *writer, PyObject *items, const place *place);
 
-/* Appends a list or rows, of a list or a tuple. */
+/* Appends a list or rows, of a list or a tuple; what may be identifiers is for Python. */
 outcome write_list(const writer *writer, PyObject *value, const place *place);
 
 /* Appends a date, a datetime, a span or a time of day, of just these types. */

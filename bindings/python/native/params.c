@@ -50,15 +50,31 @@ bool write_items(const writer *writer, PyObject *items, const place *place)
     return done;
 }
 
+/* Whether a value is of a type that most values are of, and which can't be registered. */
+static bool is_common(PyObject *value)
+{
+    PyTypeObject *type = Py_TYPE(value);
+    return type == &PyLong_Type || type == &PyUnicode_Type || type == &PyFloat_Type || type == &PyBytes_Type ||
+           type == &PyBool_Type || value == Py_None;
+}
+
 /* Whether a value is a list or a tuple, which makes it a row; -1 with an exception set. */
 static int is_row(const native_state *state, PyObject *value)
 {
     PyTypeObject *type = Py_TYPE(value);
     if (type == &PyList_Type || type == &PyTuple_Type)
         return 1;
-    if (type == &PyLong_Type || type == &PyUnicode_Type || type == &PyFloat_Type || type == &PyBytes_Type || value == Py_None)
+    return is_common(value) ? 0 : PyObject_IsInstance(value, state->handed[HANDED_LISTS]);
+}
+
+/* Whether a value may be an Identifier, or be made one by a registered function; -1 with an exception set. */
+static int may_be_identifier(const native_state *state, PyObject *value)
+{
+    PyObject *const *handed = state->handed, *type = (PyObject *)Py_TYPE(value);
+    if (is_common(value) || type == handed[HANDED_DATE] || type == handed[HANDED_DATETIME] || type == handed[HANDED_TIMEDELTA])
         return 0;
-    return PyObject_IsInstance(value, state->handed[HANDED_LISTS]);
+    bool is_value = type == handed[HANDED_DECIMAL] || type == handed[HANDED_TIME];
+    return is_value ? PyDict_Contains(handed[HANDED_REGISTERED], type) : 1;
 }
 
 /* How many of a tuple's items are rows; -1 with an exception set. */
@@ -106,8 +122,10 @@ outcome write_list(const writer *writer, PyObject *value, const place *place)
     if (items == NULL)
         return FAILED;
     Py_ssize_t count = PyTuple_Size(items), rows = count_rows(writer->state, items, count);
-    outcome done = rows < 0 ? FAILED : FOR_PYTHON;
-    if (rows >= 0 && count <= UINT32_MAX && (rows == 0 || rows == count)) {
+    /* Identifiers stand in no list of other items, so that the first tells them. */
+    int first = rows == 0 && count > 0 ? may_be_identifier(writer->state, PyTuple_GetItem(items, 0)) : 0;
+    outcome done = rows < 0 || first < 0 ? FAILED : FOR_PYTHON;
+    if (done == FOR_PYTHON && first == 0 && count <= UINT32_MAX && (rows == 0 || rows == count)) {
         writer->form->is_fragments = true;
         bool written = rows == 0 ? write_list_of(writer, items, place) : write_rows(writer, items, place);
         done = written ? WRITTEN : FAILED;

@@ -164,7 +164,7 @@ static bool is_of_fragments(const uint8_t *bytes, Py_ssize_t len)
 {
     double number;
     if (len != 10 || bytes[0] != TYPE_DOUBLE)
-        return len > 0 && bytes[0] >= TYPE_NUMBER && bytes[0] <= TYPE_KEYWORD;
+        return len > 0 && bytes[0] >= TYPE_NUMBER && bytes[0] <= TYPE_ASSIGNMENTS;
     memcpy(&number, bytes + 2, 8);
     return isfinite(number);
 }
