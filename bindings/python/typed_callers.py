@@ -92,13 +92,14 @@ def fragments(idents: list[int], prices: list[tuple[int, decimal.Decimal]], colu
     bind("ORDER BY :column :direction", {"column": Identifier("t", column), "direction": direction})
     bind("SELECT ? FROM t", [[Identifier(column), Identifier("t", "a")]])
     bind("SELECT :columns FROM t", {"columns": (Identifier(column),)})
-    prices: dict[str, decimal.Decimal] = {"price": decimal.Decimal("9.99")}
-    bind("SET ? WHERE id = ?", [Assignments(prices), 1])
+    exact: dict[str, decimal.Decimal] = {"price": decimal.Decimal("9.99")}
+    bind("SET ? WHERE id = ?", [Assignments(exact), 1])
     bind("SET ?", [Assignments({"name": column, "price": 9, "sold": None})])
     bind("SET ?", [Assignments({Identifier("t", "a"): 1, Identifier("b"): "x"})])
     bind("SET :set", {"set": Assignments({"a": 1, Identifier("t", "b"): "x"})})
     pairs: list[tuple[str, object]] = [("a", 1), ("b", "x")]
     bind("SET ?", [Assignments(pairs)])
+    bind("SET ?", [Assignments([("a", 1), (Identifier("t", "b"), "x")])])
     assigned = Assignments((name, 0) for name in (column, "b"))
     print([column.parts for column, _ in assigned.pairs])
     return bind("SELECT a FROM ? ORDER BY ? ?", [Identifier("t"), Identifier(column), direction])
@@ -174,9 +175,8 @@ def refused(ident: int) -> None:
     mysql_params.execute_rows(None, "VALUES ?", ident)  # type: ignore[arg-type]
     mysql_params.execute_rows(None, "VALUES ?", [[1]], [1])  # type: ignore[arg-type]
     Keyword("DESC")  # type: ignore[call-arg]
-    Assignments({1: 2})  # type: ignore[dict-item]
-    Assignments([ident])  # type: ignore[list-item]
-    Assignments()  # type: ignore[call-arg]
+    Assignments(ident)  # type: ignore[call-overload]
+    Assignments()  # type: ignore[call-overload]
     bind_form("?", "x")  # type: ignore[arg-type]
     names(5)  # type: ignore[arg-type]
     text: str = bind("?", [ident])  # type: ignore[assignment]

@@ -8,7 +8,7 @@ from __future__ import annotations
 import datetime
 import decimal
 from collections.abc import Iterable, Mapping
-from typing import Optional, Union
+from typing import Any, Optional, Union, overload
 
 from . import _form
 from ._values import decimal_text, plain
@@ -64,12 +64,15 @@ class Assignments:
     pairs: tuple[tuple[Identifier, object], ...]
     """The columns, and what they are set to."""
 
-    def __init__(
-        self,
-        assigned: Union[
-            Mapping[str, object], Mapping[Identifier, object], Mapping[_Column, object], Iterable[tuple[_Column, object]]
-        ],
-    ) -> None:
+    @overload
+    def __init__(self, assigned: Mapping[str, object]) -> None: ...
+    @overload
+    def __init__(self, assigned: Mapping[Identifier, object]) -> None: ...
+    @overload
+    def __init__(self, assigned: Mapping[_Column, object]) -> None: ...
+    @overload
+    def __init__(self, assigned: Iterable[tuple[_Column, object]]) -> None: ...
+    def __init__(self, assigned: Union[Mapping[Any, object], Iterable[tuple[_Column, object]]]) -> None:
         """Take what columns are set to."""
         self.pairs = tuple(map(_pair, assigned.items() if isinstance(assigned, Mapping) else assigned))
 
