@@ -1,7 +1,7 @@
-"""Fragments: identifiers, exact numbers, lists, rows and keywords through the archive, as the server reads them.
+"""Fragments: identifiers, exact numbers, lists, rows, assignments and keywords through the archive, as the server reads them.
 
 Names come back by the server's own account of a table's columns, numbers as texts, stored and in arithmetic, items of lists by
-their number, rows as stored. A leak is another shape of the answer for another text in a fragment of one kind.
+their number, rows and assignments as stored. A leak is another shape of the answer for another text in a fragment of one kind.
 """
 
 import decimal
@@ -9,7 +9,7 @@ import random
 
 import mysql_params
 from harness import Tests, same
-from mysql_params import Identifier, Keyword
+from mysql_params import Assignments, Identifier, Keyword
 from protocol import Connection, code_of
 from search import random_query, sql_modes
 from strings import is_utf8, random_strings
@@ -47,6 +47,7 @@ def run(tests: Tests, path: str) -> None:
             ("lists as single marks", _lists),
             ("items of lists", _items),
             ("rows of values", _rows),
+            ("assignments", _assignments),
             ("keywords", _keywords),
         ):
             tests.run(f"{label}: {name}", function, connection, mode)
@@ -66,7 +67,8 @@ def _cells(connection: Connection, query: bytes, fragments, mode: bool) -> list:
 
 
 def _columns(connection: Connection, names: list, mode: bool) -> None:
-    """A table with columns of these names has these, by the server's account, and each is found by its name."""
+    """A table with columns of these names has these, by the server's account. Each is found and set by its name, alone or among
+    all."""
     places = b", ".join([b"? INT"] * len(names))
     connection.query(b"DROP TABLE IF EXISTS strings.named")
     identifiers = [Identifier(name) for name in names]
@@ -82,6 +84,13 @@ def _columns(connection: Connection, names: list, mode: bool) -> None:
     result = connection.query(_bound(b"SELECT " + marks + b" FROM strings.named", backwards, mode))
     same([column.name.decode() for column in result.columns], names[::-1], "names of the answer")
     same(result.rows(), [[str(number).encode() for number in numbers[::-1]]], "values by name")
+    connection.query(_bound(b"INSERT INTO strings.named (?) VALUES (?)", [backwards, numbers], mode))
+    found = connection.query(_bound(b"SELECT ? FROM strings.named", [identifiers], mode)).rows()
+    same(found, [[b"%d" % number for number in row] for row in (numbers, numbers[::-1])], "values by a list of names")
+    assigned = Assignments([(Identifier("named", *name.parts) if i % 2 else name, -i) for i, name in enumerate(identifiers)])
+    connection.query(_bound(b"UPDATE strings.named SET ? WHERE ? = ?", [assigned, identifiers[0], numbers[0]], mode))
+    found = connection.query(_bound(b"SELECT ? FROM strings.named", [identifiers], mode)).rows()
+    same(found, [[b"%d" % number for number in row] for row in ([-i for i in numbers], numbers[::-1])], "values that are set")
 
 
 def _ascii_names(connection: Connection, mode: bool) -> str:
@@ -266,6 +275,33 @@ def _rows(connection: Connection, mode: bool) -> str:
     return f"{total} rows"
 
 
+def _assignments(connection: Connection, mode: bool) -> str:
+    """Columns are set to what was handed in, each of its own, by `UPDATE`, `INSERT .. SET` and `ON DUPLICATE KEY UPDATE`."""
+    source = random.Random(20261204)
+    pool = [*random_strings(2000, 20261204), None, 7, -3, decimal.Decimal("-0.50"), 2**70, b"", b"'", b"\\", b"`", b" = ", b", `b1`"]
+    columns = ["a", "b`", "c'", "d = 1, `e", "f\\g", "é"]
+    definition = b"(i INT PRIMARY KEY, " + b", ".join([b"? VARBINARY(500)"] * len(columns)) + b")"
+    connection.query(b"DROP TABLE IF EXISTS strings.assigned")
+    connection.query(_bound(b"CREATE TABLE strings.assigned " + definition, list(map(Identifier, columns)), mode))
+    wanted = {}
+    for i in range(300):
+        row = {column: source.choice(pool) for column in source.sample(columns, source.randrange(1, len(columns) + 1))}
+        given = {"first": Assignments({"i": i, **row}), "i": i, "later": Assignments([("i", i), *row.items()])}
+        connection.query(_bound(b"INSERT INTO strings.assigned SET :first", given, mode))
+        changed = {Identifier("assigned", column): source.choice(pool) for column in source.sample(columns, 3)}
+        if i % 2:
+            text = b"UPDATE strings.assigned SET :set WHERE i = :i"
+        else:
+            text = b"INSERT INTO strings.assigned SET :later ON DUPLICATE KEY UPDATE :set"
+        connection.query(_bound(text, {**given, "set": Assignments(changed)}, mode))
+        stored = {**row, **{name.parts[1]: value for name, value in changed.items()}}
+        values = [stored.get(column) for column in columns]
+        wanted[i] = [b"%d" % i, *(None if value is None else _bytes(value) for value in values)]
+    found = connection.query(b"SELECT * FROM strings.assigned ORDER BY i").rows()
+    same(found, list(wanted.values()), "what is stored")
+    return f"{len(wanted)} rows of up to {len(columns)} assignments"
+
+
 _KEYWORDS = [
     (("ASC",), b"SELECT 1 FROM (SELECT 1 a UNION SELECT 2) t ORDER BY a ?, 1", 2),
     (("DESC",), b"SELECT a FROM (SELECT 1 a UNION SELECT 2) t ORDER BY a ? LIMIT 1", [[b"2"]]),
@@ -324,6 +360,9 @@ def _kinds() -> dict:
         "two rows": [[pair, pair[::-1]] for pair in texts],
         "a name": [Identifier(name) for name in ("never", *(name + "never" for name in _HOSTILE))],
         "names": [Identifier(one + "x", other + "never") for one, other in (("never", "x"), *texts)],
+        "a list of names": [[Identifier("never"), Identifier(name + "never")] for name in ("never", *_HOSTILE)],
+        "an assignment": [Assignments({"never": one}) for one in _HOSTILE],
+        "assignments": [Assignments([(one + "never", other), ("never", one)]) for one, other in texts],
         "a number": [decimal.Decimal(text) for text in ("2.5", "9.75", "123456789.5", "1" * 30 + ".5")],
         "a negative number": [decimal.Decimal(text) for text in ("-2.5", "-9.75", "-123456789.5", "-" + "1" * 30 + ".5")],
         "numbers": [[decimal.Decimal(text), 2**70 + i] for i, text in enumerate(("2.5", "9.75", "1" * 30 + ".5"))],

@@ -9,7 +9,7 @@ from typing import Optional
 
 import mysql_params
 from harness import Tests, same
-from mysql_params import Identifier, Keyword
+from mysql_params import Assignments, Identifier, Keyword
 from protocol import Connection
 from search import random_query, sql_modes
 from steady import character_sets
@@ -63,7 +63,7 @@ def _settings(connection: Connection, sets: list):
 
 
 def _names(connection: Connection) -> str:
-    """Columns of such names are found by them, in the order of another."""
+    """Columns of such names are found and set by them, in the order of another."""
     # A number makes the names differ, which are the same in either case of letters.
     names = [f"{name[:62]}{i}" if i % 2 else f"{i}{name}"[:64] for i, name in enumerate(_NAMES)]
     identifiers = [Identifier(name) for name in names]
@@ -76,15 +76,23 @@ def _names(connection: Connection) -> str:
     account = b"SELECT column_name FROM information_schema.columns WHERE table_schema = 'strings' AND table_name = 'named'"
     found = [row[0].decode() for row in connection.query(account + b" ORDER BY ordinal_position").rows()]
     same(found, names, "columns of the table")
-    insert = f"INSERT INTO strings.named ({marks}) VALUES ?"
-    connection.query(mysql_params.bind_anywhere(insert, [*identifiers, [numbers]]))
+    insert = "INSERT INTO strings.named (?) VALUES ?"
+    connection.query(mysql_params.bind_anywhere(insert, [identifiers, [numbers]]))
     table = Identifier("strings", "named")
     given = [*identifiers[::-1], table, identifiers[3], Keyword("DESC", among=("ASC", "DESC"))]
     text = mysql_params.bind_anywhere(f"SELECT {marks} FROM ? ORDER BY ? ?", given)
-    wanted = [[str(number).encode() for number in numbers[::-1]]]
+    listed = mysql_params.bind_anywhere("SELECT ? FROM ?", [identifiers[::-1], table])
+    updates = []
+    for more in (0, 1000):
+        assigned = Assignments([(name, str(i + more).encode()) for i, name in enumerate(identifiers)])
+        updates.append((mysql_params.bind_anywhere("UPDATE ? SET ?", [table, assigned]), more))
     sets = [name for name in character_sets(connection) if name != _OTHER_SIGNS]
     for setting in _settings(connection, sets):
-        same(connection.query(text).rows(), wanted, setting)
+        for update, more in updates:
+            connection.query(update)
+            wanted = [[str(number + more).encode() for number in numbers[::-1]]]
+            same(connection.query(text).rows(), wanted, setting)
+            same(connection.query(listed).rows(), wanted, setting)
     return f"{len(names)} names, {len(sets)} character sets, {len(_MODES)} modes"
 
 
@@ -172,6 +180,9 @@ def _kinds() -> dict:
         "two texts": [list(pair) for pair in pairs],
         "two rows": [[pair, pair[::-1]] for pair in pairs],
         "a name": [Identifier(name) for name in names],
+        "a list of names": [[Identifier("never"), Identifier(name)] for name in names],
+        "an assignment": [Assignments({"never": one}) for one in _HOSTILE],
+        "assignments": [Assignments([(name, one), ("never", name)]) for name, one in zip(names, _HOSTILE)],
         "a number": [decimal.Decimal(text) for text in ("2.5", "9.75", "123456789.5", "1" * 30 + ".5")],
         "a double": [2.5, 1e16, 0.1, 1e-7],
     }

@@ -196,8 +196,8 @@ def first_unportable_in_client(query: Union[str, bytes], no_backslash_escape: bo
     It is for a query whose bound text goes through such a client with ``--comments``, and finds also what that reads or
     sends otherwise than a server.
 
-    It judges the bytes that it is given. A bound text with an ``Identifier`` or a ``Keyword``, or with strings without
-    backslash escapes, may hold a construct that its query doesn't have: ask it of that text too.
+    It judges the bytes that it is given. A bound text with an ``Identifier``, ``Assignments`` or a ``Keyword``, or with
+    strings without backslash escapes, may hold a construct that its query doesn't have: ask it of that text too.
 
     >>> first_unportable_in_client("SELECT 1 /*//*/, :a").construct.name
     'OPENER_IN_COMMENT'
