@@ -344,11 +344,19 @@ static bool fill_count(mysql_params_form *form, size_t at, uint32_t count)
     return fits;
 }
 
+/* Appends a parameter of a type with a count that isn't known yet. No list and no rows stand in a list. */
+static bool append_counted(mysql_params_form *form, const char *name, uint8_t type)
+{
+    const uint8_t count[COUNT_ROOM] = {0, 0, 0, 0};
+    if (form->list_at > 0)
+        return append_nothing(form);
+    return append_parameter(form, name, type, 0, count, COUNT_ROOM, NULL, 0);
+}
+
 /* Begins a list of a type, and has what is appended stand in it. */
 static bool begin_list_of(mysql_params_form *form, const char *name, uint8_t type, uint32_t list_of)
 {
-    const uint8_t count[COUNT_ROOM] = {0, 0, 0, 0};
-    bool fits = append_parameter(form, name, type, 0, count, COUNT_ROOM, NULL, 0);
+    bool fits = append_counted(form, name, type);
     form->list_at = count_place(form);
     form->list_of = list_of;
     form->items = 0;
@@ -400,8 +408,7 @@ bool mysql_params_end_assignments(mysql_params_form *form)
 
 bool mysql_params_begin_rows(mysql_params_form *form, const char *name)
 {
-    const uint8_t count[COUNT_ROOM] = {0, 0, 0, 0};
-    bool fits = append_parameter(form, name, TYPE_ROWS, 0, count, COUNT_ROOM, NULL, 0);
+    bool fits = append_counted(form, name, TYPE_ROWS);
     form->rows_at = count_place(form);
     form->rows = 0;
     return fits;

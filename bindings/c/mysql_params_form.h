@@ -120,7 +120,7 @@ bool mysql_params_append_qualified(mysql_params_form *form, const char *name, co
 /* Appends a keyword that your program has, as "DESC", one of those that README lists: never a text from outside. */
 bool mysql_params_append_keyword(mysql_params_form *form, const char *name, const char *keyword);
 
-/* Begins a list. Then append its items by the functions above, without a name, and end it. No list stands in a list. */
+/* Begins a list. Then append its items by the functions above, without a name, and end it. No list fits in a list. */
 bool mysql_params_begin_list(mysql_params_form *form, const char *name);
 
 /* Ends a list. */

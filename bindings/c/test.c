@@ -1034,14 +1034,16 @@ static void forms_of_assignments(void)
     mysql_params_form_free(&form);
 }
 
-/* Appends what can't stand in identifiers or assignments, by its number; false if there is no more. */
+/* Appends what can't stand in identifiers, assignments or a list, by its number; false if there is no more. */
 static bool append_misplaced(mysql_params_form *form, int which)
 {
     static const char *const column_b[] = {"t", "b"};
     if (which < 6)
         mysql_params_begin_identifiers(form, NULL);
-    else if (which != 14)
+    else if (which < 14 || which > 17)
         mysql_params_begin_assignments(form, NULL);
+    else if (which > 14)
+        mysql_params_begin_list(form, NULL);
     switch (which) {
     case 0: return mysql_params_append_int(form, NULL, 1), true;
     case 1: return mysql_params_append_text(form, NULL, "x"), true;
@@ -1060,6 +1062,9 @@ static bool append_misplaced(mysql_params_form *form, int which)
         return mysql_params_begin_assignment(form, column_b, 2), true;
     case 13: return mysql_params_begin_assignment(form, column_b, 2), true;
     case 14: return mysql_params_begin_assignment(form, column_b, 2), true;
+    case 15: return mysql_params_begin_list(form, NULL), true;
+    case 16: return mysql_params_begin_identifiers(form, NULL), true;
+    case 17: return mysql_params_begin_rows(form, NULL), true;
     default: return false;
     }
 }

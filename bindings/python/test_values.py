@@ -116,8 +116,8 @@ class Test(unittest.TestCase):
             (
                 {1: 2},
                 TypeError,
-                "the value for place 0 is of type dict, which has no literal: for SET give Assignments(..) of it, else json.dumps(..)"
-                " of it, or register(dict, json.dumps)",
+                "the value for place 0 is of type dict, which has no literal: for SET give Assignments(..) of it, else"
+                " json.dumps(..) of it, or register(dict, json.dumps)",
             ),
         ):
             with self.subTest(value=value), self.assertRaises(kind) as raised:
@@ -360,7 +360,8 @@ class Test(unittest.TestCase):
 
     def test_lists_of_identifiers(self):
         a, b, others = mysql_params.Identifier("a"), mysql_params.Identifier("t", "b`"), [Named("a", "b`"), Named("c")]
-        for value, wanted in (([a], b"`a`"), ((a, b), b"`a`, `t`.`b```"), ([a] * 3, b"`a`, `a`, `a`"), (others, b"`a`.`b```, `c`")):
+        lists = (([a], b"`a`"), ((a, b), b"`a`, `t`.`b```"), ([a] * 3, b"`a`, `a`, `a`"), (others, b"`a`.`b```, `c`"))
+        for value, wanted in lists:
             for call in (bind, mysql_params.bind_anywhere, lambda query, given: mysql_params.Template(query).bind(given)):
                 with self.subTest(value=value):
                     self.assertEqual(call("?, ?", [value, 1]), wanted + b", 1")
@@ -517,6 +518,8 @@ class Test(unittest.TestCase):
         with self.assertRaisesRegex(TypeError, "a datetime with a time zone: .* hand in zone"):
             bind("?", [MOMENT])
         self.assertEqual(bind("?", [MOMENT], zone=UTC), b"'2019-11-27 23:30:00'")
+        assigned = mysql_params.Assignments({"a": MOMENT})
+        self.assertEqual(bind("?", [assigned], zone=MADRID), b"`a` = '2019-11-28 00:30:00'")
         self.assertEqual(bind(":a", {"a": MOMENT}, zone=MADRID), b"'2019-11-28 00:30:00'")
         self.assertEqual(mysql_params.bind_anywhere("?", [MOMENT], zone=UTC), b"'2019-11-27 23:30:00'")
         with self.assertRaises(TypeError):

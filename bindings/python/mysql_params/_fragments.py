@@ -190,8 +190,8 @@ def item_form(value: object, which: Union[bytes, int], zone: Optional[datetime.t
     if isinstance(value, (list, tuple)):
         raise TypeError(f"{_form.place(which)} has a {type(value).__name__} in a row: rows are of values")
     if isinstance(value, (Identifier, Assignments, Keyword)):
-        kind, to_do = type(value).__name__, "lists and rows are of values, or a list of Identifiers alone, so write a place for each"
-        raise TypeError(f"{_form.place(which)} has an item that is of type {kind}: {to_do}")
+        to_do = "lists and rows are of values, or a list of Identifiers alone, so write a place for each"
+        raise TypeError(f"{_form.place(which)} has an item that is of type {type(value).__name__}: {to_do}")
     wide = _wide_number(value, which)
     return _form.value_form(value, which, zone) if wide is None else wide
 
@@ -247,7 +247,8 @@ def _assignments(
         value = plain(given)
         if issubclass(type(value), (list, tuple, Identifier, Assignments, Keyword)):
             names = ".".join(f"`{_show(part.encode(errors='backslashreplace'))}`" for part in column.parts)
-            raise TypeError(f"{_form.place(which)} sets {names} to a value of type {type(value).__name__}: a column takes one value")
+            kind = type(value).__name__
+            raise TypeError(f"{_form.place(which)} sets {names} to a value of type {kind}: a column takes one value")
         made.append(_names(column.parts, which) + item_form(value, which, zone))
     return bytes([_ASSIGNMENTS, 0]) + _count(len(made)) + b"".join(made)
 
