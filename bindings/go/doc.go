@@ -1,0 +1,29 @@
+// Package mysqlparams puts values into SQL queries for MySQL and MariaDB as literals.
+//
+//	text, err := mysqlparams.BindAnywhere("SELECT * FROM t WHERE id = :id", sql.Named("id", 42))
+//	rows, err := db.QueryContext(ctx, text)
+//
+// QueryContext and ExecContext do both. Arguments are sql.NamedArg for the names of a query, or values in order for its
+// marks. A name is a colon, a letter or `_`, and all letters, digits and `_` that follow, as `:userId`. Letters are those of
+// ASCII, and names are told apart by case. Each colon before a letter or `_` begins a name, except in strings, quoted
+// identifiers and comments. So `x:LOOP` is refused, and `x: LOOP` is sent as it is.
+//
+// A value is one of these; pointers to them are followed, and a nil pointer is NULL:
+//
+//   - nil, bool, which is 1 or 0, and whole numbers of each size;
+//   - float32 and float64, as the DOUBLE of this value; NaN and infinities are refused;
+//   - string and []byte, as a string, or in hexadecimal if the bytes aren't UTF-8; a nil []byte is NULL;
+//   - time.Time, as its own clock shows it, or that of Binder.Location, to the nearest microsecond;
+//   - time.Duration, as a TIME;
+//   - *big.Int and Decimal, as exact numbers;
+//   - types whose kind is one of these, as `type Status int`;
+//   - a driver.Valuer, as the sql.Null types, by what its Value returns;
+//   - a slice, as a list for `IN (?)`; a slice of slices, as rows for `VALUES ?`;
+//   - Identifier, and what Keyword and KeywordAmong return.
+//
+// A struct, a map, an array, a channel and a func are refused by name. No method String is called.
+//
+// The archive libmysql_params_c.a answers each call. What it answers is stated in the repository's docs/RULES.md and proved
+// for every input. This package, which hands values in and answers out, is tested and not proved. It calls the archive by cgo;
+// a bind is one such call. All functions and types are safe for goroutines.
+package mysqlparams

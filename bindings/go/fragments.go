@@ -1,0 +1,195 @@
+package mysqlparams
+
+import (
+	"database/sql/driver"
+	"encoding/binary"
+	"reflect"
+	"strconv"
+)
+
+// Decimal is an exact number by its digits, as "-1.50". It is written bare, so that a server compares and computes it exactly.
+type Decimal string
+
+// Identifier is the name of a table or a column, and before it that of what it is in: Identifier{"shop", "t"}. It is written in
+// backquotes, each of which in a name is doubled. A point in a name is a part of it.
+type Identifier []string
+
+// KeywordOf is a keyword of the program. Keyword and KeywordAmong make one.
+type KeywordOf struct{ word string }
+
+// constant is a text of the program: outside of this package only a constant without a type is one by itself.
+type constant string
+
+// Keyword returns a keyword, one of Keywords. Its text is a constant of the program, as in Keyword("DESC"): a variable doesn't
+// compile. Another word is refused with FaultKeyword when it is bound.
+func Keyword(word constant) KeywordOf { return KeywordOf{string(word)} }
+
+// KeywordAmong returns the keyword that a text says, if it is among those of the program:
+// KeywordAmong(order, "ASC", "DESC"). Else the error has CodeValue.
+func KeywordAmong(word string, among ...constant) (KeywordOf, error) {
+	choice := ""
+	for _, one := range among {
+		if string(one) == word {
+			return KeywordOf{word}, nil
+		}
+		choice += ", " + strconv.Quote(string(one))
+	}
+	if choice == "" {
+		choice = ", none"
+	}
+	return KeywordOf{}, &BindError{Code: CodeValue, Row: -1, message: "the word is none of the keywords " + choice[2:]}
+}
+
+// String returns the word.
+func (k KeywordOf) String() string { return k.word }
+
+// Keywords returns the keywords that the archive writes. No other word gets into a query.
+func Keywords() []string {
+	return []string{
+		"ASC", "DESC", "ALL", "DISTINCT", "AND", "OR", "XOR", "NOT", "NULL", "IS NULL", "IS NOT NULL", "DEFAULT", "TRUE",
+		"FALSE", "LIKE", "NOT LIKE", "MICROSECOND", "SECOND", "MINUTE", "HOUR", "DAY", "WEEK", "MONTH", "QUARTER", "YEAR",
+		"LEFT", "RIGHT", "INNER", "CROSS", "UNION", "UNION ALL", "FOR UPDATE", "LOCK IN SHARE MODE",
+	}
+}
+
+// isPlace returns why what is no value can't stand where it does, if it can't.
+func (w *writer) isPlace(kind string, at level) error {
+	if w.single {
+		return w.refuseValue("is " + kind + ", and a place takes one value here")
+	}
+	if at == itemLevel {
+		return w.refuseValue("has an item that is " + kind + ": lists and rows are of values, so write a place for each")
+	}
+	return nil
+}
+
+// identifier writes an Identifier.
+func (w *writer) identifier(names Identifier, at level) error {
+	if err := w.isPlace("an Identifier", at); err != nil {
+		return err
+	}
+	w.fragments = true
+	if len(names) == 1 {
+		w.form = append(w.form, typeIdentifier, 0)
+	} else {
+		w.form = append(w.form, typeQualified, 0)
+		w.count(len(names))
+	}
+	for _, name := range names {
+		w.string(name)
+	}
+	return nil
+}
+
+// keyword writes a keyword.
+func (w *writer) keyword(keyword KeywordOf, at level) error {
+	if err := w.isPlace("a keyword", at); err != nil {
+		return err
+	}
+	w.fragments = true
+	w.form = append(w.form, typeKeyword, 0)
+	w.string(keyword.word)
+	return nil
+}
+
+// count writes how many come.
+func (w *writer) count(number int) {
+	w.form = binary.LittleEndian.AppendUint32(w.form, uint32(number))
+}
+
+// list writes a slice that is no []byte: a list of values, or rows if its elements are slices.
+func (w *writer) list(slice any, at level) error {
+	if w.single {
+		return w.refuseValue("is a slice, and a place takes one value here: write a place for each of its values")
+	}
+	if at == itemLevel {
+		return w.refuseValue("has a slice in a row: rows are of values")
+	}
+	w.fragments = true
+	if rows, isOfRows, err := w.rowsOf(slice); err != nil || isOfRows {
+		if err != nil {
+			return err
+		}
+		return w.rows(rows)
+	}
+	w.form = append(w.form, typeList, 0)
+	return w.items(slice)
+}
+
+// rows writes rows.
+func (w *writer) rows(rows reflect.Value) error {
+	w.form = append(w.form, typeRows, 0)
+	w.count(rows.Len())
+	for i := 0; i < rows.Len(); i++ {
+		if err := w.items(rows.Index(i).Interface()); err != nil {
+			return err
+		}
+	}
+	return nil
+}
+
+// items writes the count of a slice's items, and these.
+func (w *writer) items(slice any) error {
+	switch items := slice.(type) {
+	case []any:
+		w.count(len(items))
+		for _, item := range items {
+			if err := w.value(item, itemLevel); err != nil {
+				return err
+			}
+		}
+	case []int:
+		w.count(len(items))
+		for _, item := range items {
+			w.int(int64(item))
+		}
+	case []int64:
+		w.count(len(items))
+		for _, item := range items {
+			w.int(item)
+		}
+	case []string:
+		w.count(len(items))
+		for _, item := range items {
+			w.text(item)
+		}
+	default:
+		items2 := reflect.ValueOf(slice)
+		w.count(items2.Len())
+		for i := 0; i < items2.Len(); i++ {
+			if err := w.value(items2.Index(i).Interface(), itemLevel); err != nil {
+				return err
+			}
+		}
+	}
+	return nil
+}
+
+// rowsOf returns a slice whose elements are all rows, and whether they are. Rows and values in one slice are refused.
+func (w *writer) rowsOf(slice any) (reflect.Value, bool, error) {
+	values := reflect.ValueOf(slice)
+	if values.Type().Elem().Kind() != reflect.Interface {
+		return values, isRowType(values.Type().Elem()), nil
+	}
+	rows := 0
+	for i := 0; i < values.Len(); i++ {
+		if element := values.Index(i).Elem(); element.IsValid() && isRowType(element.Type()) {
+			rows++
+		}
+	}
+	if rows > 0 && rows < values.Len() {
+		return values, false, w.refuseValue("has rows and values: give a slice of values, or one of rows alone")
+	}
+	return values, rows > 0, nil
+}
+
+var (
+	valuerType     = reflect.TypeOf((*driver.Valuer)(nil)).Elem()
+	identifierType = reflect.TypeOf(Identifier(nil))
+)
+
+// isRowType returns whether values of a type are rows: slices, except those of bytes, Identifiers and what has a method Value.
+func isRowType(kind reflect.Type) bool {
+	return kind.Kind() == reflect.Slice && kind.Elem().Kind() != reflect.Uint8 && kind != identifierType &&
+		!kind.Implements(valuerType)
+}

@@ -1,0 +1,3 @@
+module mysqlparams
+
+go 1.18

@@ -1,0 +1,276 @@
+package mysqlparams
+
+import (
+	"context"
+	"database/sql"
+	"database/sql/driver"
+	"errors"
+	"io"
+	"reflect"
+	"strings"
+	"sync"
+	"testing"
+)
+
+// played is a driver, and a server of which each connection has this session. It keeps what it is sent.
+type played struct {
+	sqlMode, client, own string
+	stale                int // questions that find their connection closed
+	sync.Mutex
+	asked, opened int
+	texts         []string
+}
+
+func (p *played) Connect(context.Context) (driver.Conn, error) {
+	p.Lock()
+	defer p.Unlock()
+	p.opened++
+	return &playedConn{p}, nil
+}
+
+func (p *played) Driver() driver.Driver { return nil }
+
+type playedConn struct{ *played }
+
+func (c *playedConn) Prepare(string) (driver.Stmt, error) { panic("a text was prepared") }
+func (c *playedConn) Close() error                        { return nil }
+func (c *playedConn) Begin() (driver.Tx, error)           { return c, nil }
+func (c *playedConn) Commit() error                       { return nil }
+func (c *playedConn) Rollback() error                     { return nil }
+
+// take keeps a text.
+func (c *playedConn) take(text string, args []driver.NamedValue) {
+	if len(args) > 0 {
+		panic("a text was sent with arguments")
+	}
+	c.Lock()
+	defer c.Unlock()
+	c.texts = append(c.texts, text)
+}
+
+func (c *playedConn) ExecContext(_ context.Context, text string, args []driver.NamedValue) (driver.Result, error) {
+	c.take(text, args)
+	return driver.RowsAffected(3), nil
+}
+
+func (c *playedConn) QueryContext(_ context.Context, text string, args []driver.NamedValue) (driver.Rows, error) {
+	if !strings.Contains(text, "@@sql_mode") {
+		c.take(text, args)
+		return &playedRows{values: []driver.Value{"answer"}}, nil
+	}
+	c.Lock()
+	defer c.Unlock()
+	c.asked++
+	if c.stale > 0 {
+		c.stale--
+		return nil, driver.ErrBadConn
+	}
+	return &playedRows{values: []driver.Value{[]byte(c.sqlMode), []byte(c.client), []byte(c.own)}}, nil
+}
+
+type playedRows struct{ values []driver.Value }
+
+func (r *playedRows) Columns() []string { return make([]string, len(r.values)) }
+func (r *playedRows) Close() error      { return nil }
+func (r *playedRows) Next(to []driver.Value) error {
+	if r.values == nil {
+		return io.EOF
+	}
+	copy(to, r.values)
+	r.values = nil
+	return nil
+}
+
+const hostile = `\' , 7 -- `
+
+// open returns a pool over a played session.
+func open(t *testing.T, sqlMode, charset string) (*played, *sql.DB) {
+	server := &played{sqlMode: sqlMode, client: charset, own: charset}
+	db := sql.OpenDB(server)
+	t.Cleanup(func() { db.Close() })
+	return server, db
+}
+
+// connections returns a pool, a connection and a transaction.
+func connections(t *testing.T, db *sql.DB) []Sender {
+	conn, err := db.Conn(context.Background())
+	must(nil, err)
+	tx, err := db.Begin()
+	must(nil, err)
+	t.Cleanup(func() { tx.Rollback(); conn.Close() })
+	return []Sender{db, conn, tx}
+}
+
+// send sends by both calls, and returns the error. Both give what the driver gives.
+func send(t *testing.T, to Sender, query string, args ...any) error {
+	t.Helper()
+	rows, err := QueryContext(context.Background(), to, query, args...)
+	if err == nil {
+		var answer string
+		if !rows.Next() || rows.Scan(&answer) != nil || answer != "answer" || rows.Close() != nil {
+			t.Errorf("%q", answer)
+		}
+	}
+	result, err2 := ExecContext(context.Background(), to, query, args...)
+	if err2 == nil {
+		if count, err := result.RowsAffected(); count != 3 || err != nil {
+			t.Error(count, err)
+		}
+	}
+	if (err == nil) != (err2 == nil) || err != nil && err.Error() != err2.Error() {
+		t.Errorf("%v, and %v", err, err2)
+	}
+	return err
+}
+
+func TestSentWithoutAQuestion(t *testing.T) {
+	server, db := open(t, "", "latin1")
+	for _, to := range connections(t, db) {
+		server.texts = nil
+		if err := send(t, to, "SELECT :a", sql.Named("a", hostile)); err != nil {
+			t.Error(err)
+		}
+		if !reflect.DeepEqual(server.texts, []string{"SELECT _utf8mb4 0x5C27202C2037202D2D20", "SELECT _utf8mb4 0x5C27202C2037202D2D20"}) {
+			t.Errorf("%T: %q", to, server.texts)
+		}
+	}
+	if server.asked > 0 {
+		t.Error("the connection was asked")
+	}
+}
+
+func TestSentAfterAQuestion(t *testing.T) {
+	for sqlMode, wanted := range map[string]string{
+		"STRICT_TRANS_TABLES": `SELECT ü, '\\\' , 7 -- '`, "STRICT_TRANS_TABLES,NO_BACKSLASH_ESCAPES": `SELECT ü, '\'' , 7 -- '`,
+	} {
+		server, db := open(t, sqlMode, "utf8mb4")
+		for _, to := range connections(t, db) {
+			server.texts, server.asked = nil, 0
+			if err := send(t, to, "SELECT ü, ?", hostile); err != nil {
+				t.Error(err)
+			}
+			if !reflect.DeepEqual(server.texts, []string{wanted, wanted}) || server.asked != 2 {
+				t.Errorf("%T: %q, asked %d times", to, server.texts, server.asked)
+			}
+		}
+	}
+}
+
+func TestConnectionsGivenBack(t *testing.T) {
+	server, db := open(t, "", "utf8mb4")
+	db.SetMaxOpenConns(1)
+	for i := 0; i < 20; i++ {
+		if err := send(t, db, "SELECT ü, ?", i); err != nil {
+			t.Fatal(err)
+		}
+		if err := send(t, db, "SELECT ü, [?", i); err == nil {
+			t.Fatal("no refusal")
+		}
+	}
+	if server.opened != 1 || len(server.texts) != 40 {
+		t.Error(server.opened, len(server.texts))
+	}
+}
+
+func TestStaleConnections(t *testing.T) {
+	server, db := open(t, "", "utf8mb4")
+	server.stale = 2
+	if err := send(t, db, "SELECT ü, ?", 1); err != nil {
+		t.Error(err)
+	}
+	server.stale = 100
+	if err := send(t, db, "SELECT ü, ?", 1); !errors.Is(err, driver.ErrBadConn) {
+		t.Error(err)
+	}
+}
+
+func TestRefusedSessions(t *testing.T) {
+	for charset, wanted := range map[[2]string]string{
+		{"latin1", "utf8mb4"}: "The connection's character_set_client is latin1, and has to be utf8mb4: connect with charset=utf8mb4",
+		{"utf8mb4", "gbk"}:    "The connection's character_set_connection is gbk, and has to be utf8mb4: connect with charset=utf8mb4",
+	} {
+		server, db := open(t, "", "")
+		server.client, server.own = charset[0], charset[1]
+		for _, to := range connections(t, db) {
+			var found *BindError
+			if err := send(t, to, "SELECT ü, ?", 1); !errors.As(err, &found) || found.Code != CodeSession || err.Error() != wanted {
+				t.Error(err)
+			}
+		}
+		if len(server.texts) > 0 {
+			t.Errorf("%q was sent", server.texts)
+		}
+	}
+	_, db := open(t, "", "utf8mb4")
+	var found *BindError
+	if _, err := Ask(context.Background(), db); !errors.As(err, &found) || found.Code != CodeSession {
+		t.Error(err)
+	}
+}
+
+func TestSessions(t *testing.T) {
+	server, db := open(t, "ansi,no_backslash_escapes", "utf8mb4")
+	for _, to := range connections(t, db)[1:] {
+		server.texts, server.asked = nil, 0
+		session, err := Ask(context.Background(), to)
+		if err != nil || session.Mode() != NoBackslashEscapes {
+			t.Fatal(err)
+		}
+		for i := 0; i < 3; i++ {
+			rows, err := session.QueryContext(context.Background(), "SELECT ?", hostile)
+			if err != nil {
+				t.Fatal(err)
+			}
+			rows.Close()
+			if _, err := session.ExecContext(context.Background(), "SELECT ?", "b"); err != nil {
+				t.Fatal(err)
+			}
+		}
+		if server.asked != 1 || len(server.texts) != 6 || server.texts[4] != `SELECT '\'' , 7 -- '` || server.texts[5] != "SELECT 'b'" {
+			t.Errorf("%q, asked %d times", server.texts, server.asked)
+		}
+		var found *BindError
+		if _, err := session.ExecContext(context.Background(), "SELECT [a, ?", 1); !errors.As(err, &found) ||
+			found.Code != CodeUnportable || found.Construct != Bracket || found.Position != 7 ||
+			err.Error() != "Not portable at byte 7 of the query: `[` may open an identifier: write the name in backquotes" {
+			t.Error(err)
+		}
+		if _, err := session.QueryContext(context.Background(), "SELECT ?"); !errors.As(err, &found) || found.Code != CodeMarkCount {
+			t.Error(err)
+		}
+	}
+}
+
+func TestSentRefusals(t *testing.T) {
+	server, db := open(t, "", "utf8mb4")
+	var found *BindError
+	for query, code := range map[string]Code{"SELECT ?": CodeMarkCount, "SELECT [a": CodeUnportable, "SELECT ü, [a": CodeUnportable, "ü ?": CodeMarkCount} {
+		if err := send(t, db, query); !errors.As(err, &found) || found.Code != code {
+			t.Errorf("%s: %v", query, err)
+		}
+	}
+	if len(server.texts) > 0 {
+		t.Errorf("%q was sent", server.texts)
+	}
+	ctx, cancel := context.WithCancel(context.Background())
+	cancel()
+	for _, query := range []string{"SELECT 1", "ü"} {
+		if _, err := QueryContext(ctx, db, query); !errors.Is(err, context.Canceled) {
+			t.Error(err)
+		}
+	}
+}
+
+func TestModes(t *testing.T) {
+	for sqlMode, wanted := range map[string]Mode{
+		"": BackslashEscapes, "STRICT_ALL_TABLES,ANSI": BackslashEscapes, "NO_BACKSLASH_ESCAPES": NoBackslashEscapes,
+		"ANSI_QUOTES, no_backslash_escapes ": NoBackslashEscapes, "XNO_BACKSLASH_ESCAPES": BackslashEscapes,
+	} {
+		if ModeOf(sqlMode) != wanted {
+			t.Error(sqlMode)
+		}
+	}
+	if BackslashEscapes.String() != "BackslashEscapes" || NoBackslashEscapes.String() != "NoBackslashEscapes" {
+		t.Error("names")
+	}
+}

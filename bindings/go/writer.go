@@ -1,0 +1,231 @@
+package mysqlparams
+
+import (
+	"database/sql"
+	"encoding/binary"
+	"math"
+	"math/big"
+	"strconv"
+	"time"
+	"unsafe"
+)
+
+// Numbers of column types in the protocol, and of the types that the calls for fragments take.
+const (
+	typeFloat, typeDouble, typeNull, typeLongLong      = 4, 5, 6, 8
+	typeTime, typeDatetime, typeString                 = 11, 12, 253
+	typeNumber, typeList, typeRows                     = 128, 129, 130
+	typeIdentifier, typeQualified, typeKeyword    byte = 131, 132, 133
+	flagUnsigned                                  byte = 128
+)
+
+// writer writes arguments as the flat form of mysql_params.h.
+type writer struct {
+	form      []byte
+	fragments bool           // whether the form has what the calls for fragments take alone
+	single    bool           // whether a place takes one value alone
+	location  *time.Location // whose clock a time.Time is written by; nil for its own
+	name      string         // the name of the argument that is written
+	number    int            // its number
+}
+
+// begin has the writer write a form anew.
+func (w *writer) begin(location *time.Location, single bool) {
+	w.form, w.fragments, w.single, w.location = w.form[:0], false, single, location
+}
+
+// end drops what the writer shouldn't keep.
+func (w *writer) end() {
+	w.name, w.location = "", nil
+	if cap(w.form) > keptRoom {
+		w.form = nil
+	}
+}
+
+// arguments writes all arguments of a call.
+func (w *writer) arguments(args []any) error {
+	for i, arg := range args {
+		w.number, w.name = i, ""
+		if named, ok := arg.(sql.NamedArg); ok {
+			if named.Name == "" {
+				return w.refuse("Parameter " + strconv.Itoa(i) + " has an empty name")
+			}
+			w.name, arg = named.Name, named.Value
+		}
+		w.string(w.name)
+		if err := w.value(arg, placeLevel); err != nil {
+			return err
+		}
+	}
+	return nil
+}
+
+// refuse returns the error for the argument that is written.
+func (w *writer) refuse(message string) error {
+	return &BindError{Code: CodeValue, Place: w.number, Name: w.name, Row: -1, message: message}
+}
+
+// which returns what messages call the value of the argument.
+func (w *writer) which() string {
+	if w.name == "" {
+		return "the value for place " + strconv.Itoa(w.number)
+	}
+	return "the value of `:" + shown(w.name) + "`"
+}
+
+// refuseValue returns the error for a value of the argument: "the value of `:a` is a chan int, .."
+func (w *writer) refuseValue(is string) error {
+	return w.refuse(w.which() + " " + is)
+}
+
+// length writes a length as the protocol has it.
+func (w *writer) length(count int) {
+	switch {
+	case count < 251:
+		w.form = append(w.form, byte(count))
+	case count < 1<<16:
+		w.form = append(w.form, 0xFC, byte(count), byte(count>>8))
+	case count < 1<<24:
+		w.form = append(w.form, 0xFD, byte(count), byte(count>>8), byte(count>>16))
+	default:
+		w.form = binary.LittleEndian.AppendUint64(append(w.form, 0xFE), uint64(count))
+	}
+}
+
+// string writes a length-encoded string.
+func (w *writer) string(text string) {
+	w.length(len(text))
+	w.form = append(w.form, text...)
+}
+
+// null writes NULL.
+func (w *writer) null() {
+	w.form = append(w.form, typeNull, 0)
+}
+
+// int writes a signed whole number.
+func (w *writer) int(number int64) {
+	w.form = binary.LittleEndian.AppendUint64(append(w.form, typeLongLong, 0), uint64(number))
+}
+
+// uint writes an unsigned whole number.
+func (w *writer) uint(number uint64) {
+	w.form = binary.LittleEndian.AppendUint64(append(w.form, typeLongLong, flagUnsigned), number)
+}
+
+// bool writes 1 or 0.
+func (w *writer) bool(truth bool) {
+	if truth {
+		w.int(1)
+	} else {
+		w.int(0)
+	}
+}
+
+// text writes a text.
+func (w *writer) text(text string) {
+	w.form = append(w.form, typeString, 0)
+	w.string(text)
+}
+
+// bytes writes bytes; NULL for nil.
+func (w *writer) bytes(bytes []byte) {
+	if bytes == nil {
+		w.null()
+		return
+	}
+	w.text(*(*string)(unsafe.Pointer(&bytes))) // It is read at once.
+}
+
+// double writes a float64, which the archive refuses if it is no finite number.
+func (w *writer) double(number float64) {
+	w.fragments = true
+	w.form = binary.LittleEndian.AppendUint64(append(w.form, typeDouble, 0), math.Float64bits(number))
+}
+
+// float writes a float32 so.
+func (w *writer) float(number float32) {
+	w.fragments = true
+	w.form = binary.LittleEndian.AppendUint32(append(w.form, typeFloat, 0), math.Float32bits(number))
+}
+
+// time writes a date with its time of day, to the nearest microsecond.
+func (w *writer) time(moment time.Time) error {
+	if w.location != nil {
+		moment = moment.In(w.location)
+	}
+	if moment.Nanosecond()%1000 != 0 {
+		moment = moment.Round(time.Microsecond)
+	}
+	year, month, day := moment.Date()
+	hour, minute, second := moment.Clock()
+	if year < 0 || year > 9999 {
+		return w.refuseValue("is a time.Time of the year " + strconv.Itoa(year) + ", and a date has years from 0 to 9999")
+	}
+	w.form = append(w.form, typeDatetime, 0, 11, byte(year), byte(year>>8), byte(month), byte(day), byte(hour), byte(minute),
+		byte(second))
+	w.form = binary.LittleEndian.AppendUint32(w.form, uint32(moment.Nanosecond()/1000))
+	return nil
+}
+
+// duration writes a span of time, to the nearest microsecond.
+func (w *writer) duration(span time.Duration) {
+	size, sign := uint64(span), byte(0)
+	if span < 0 {
+		size, sign = -size, 1
+	}
+	size = (size + 500) / 1000
+	const second, minute, hour, day = 1e6, 60e6, 3600e6, 86400e6
+	w.form = append(w.form, typeTime, 0, 12, sign)
+	w.form = binary.LittleEndian.AppendUint32(w.form, uint32(size/day))
+	w.form = append(w.form, byte(size%day/hour), byte(size%hour/minute), byte(size%minute/second))
+	w.form = binary.LittleEndian.AppendUint32(w.form, uint32(size%second))
+}
+
+// whole writes a whole number of any size.
+func (w *writer) whole(number *big.Int) error {
+	switch {
+	case number == nil:
+		w.null()
+	case number.IsInt64():
+		w.int(number.Int64())
+	case number.IsUint64():
+		w.uint(number.Uint64())
+	default:
+		return w.decimal(number.String())
+	}
+	return nil
+}
+
+// mostDigits is how many digits of an exact number servers keep.
+const mostDigits = 65
+
+// decimal writes an exact number.
+func (w *writer) decimal(text string) error {
+	if w.single {
+		return w.refuseValue("is an exact number, and a place takes one value here: give its digits as a string, and write CAST(" +
+			w.mark() + " AS DECIMAL(65,30)): a text in arithmetic is a double")
+	}
+	digits := 0
+	for i := 0; i < len(text); i++ {
+		if '0' <= text[i] && text[i] <= '9' {
+			digits++
+		}
+	}
+	if digits > mostDigits {
+		return w.refuseValue("is an exact number of " + strconv.Itoa(digits) + " digits, and servers keep " +
+			strconv.Itoa(mostDigits) + ": round it")
+	}
+	w.fragments = true
+	w.form = append(w.form, typeNumber, 0)
+	w.string(text)
+	return nil
+}
+
+// mark returns the argument's place as a query has it.
+func (w *writer) mark() string {
+	if w.name == "" {
+		return "?"
+	}
+	return ":" + shown(w.name)
+}
