@@ -377,3 +377,22 @@ func TestTextsStay(t *testing.T) {
 		}
 	}
 }
+
+// TestProcessor has each call refused on a processor that the archive isn't compiled for.
+func TestProcessor(t *testing.T) {
+	processorSuffices = false
+	defer func() { processorSuffices = true }()
+	for name, call := range map[string]func() error{
+		"Bind":            func() error { _, err := Bind(BackslashEscapes, ""); return err },
+		"BindAnywhere":    func() error { _, err := BindAnywhere(""); return err },
+		"BindRows":        func() error { _, err := BindRows(BackslashEscapes, "", nil); return err },
+		"Names":           func() error { _, err := Names(BackslashEscapes, ""); return err },
+		"NewTemplate":     func() error { _, err := NewTemplate(BackslashEscapes, ""); return err },
+		"FirstUnportable": func() error { _, err := FirstUnportable(BackslashEscapes, ""); return err },
+	} {
+		var found *BindError
+		if err := call(); !errors.As(err, &found) || found.Code != CodeProcessor || err.Error() != "the processor lacks a feature of x86-64-v2" {
+			t.Errorf("%s: %v", name, err)
+		}
+	}
+}

@@ -1,0 +1,6 @@
+/* Memory that is refused, and another archive, for refused_test.go. */
+#include <stddef.h>
+#include <stdint.h>
+
+void refuse_after(long count);
+void tell(int32_t number, size_t len);

@@ -1,0 +1,118 @@
+package mysqlparams
+
+import (
+	"database/sql"
+	"errors"
+	"fmt"
+	"runtime"
+	"strings"
+	"testing"
+)
+
+// TestRefusedMemory has each allocation of each call refused, one after another, until the call has what it needs.
+func TestRefusedMemory(t *testing.T) {
+	runtime.LockOSThread()
+	defer runtime.UnlockOSThread()
+	var names, marks []string
+	var named, values []any
+	for i := 0; i < 100; i++ {
+		names, marks = append(names, fmt.Sprint(":N", i)), append(marks, "?")
+		named, values = append(named, sql.Named(fmt.Sprint("N", i), i)), append(values, "it's")
+	}
+	byName, byMark := strings.Join(names, ", "), strings.Join(marks, ", ")
+	template, err := NewTemplate(BackslashEscapes, byName)
+	must(nil, err)
+	for name, call := range map[string]func() (string, error){
+		"Bind":            func() (string, error) { return Bind(BackslashEscapes, byName, named...) },
+		"Bind by marks":   func() (string, error) { return Bind(BackslashEscapes, byMark, values...) },
+		"BindAnywhere":    func() (string, error) { return BindAnywhere(byName, named...) },
+		"BindInBothModes": func() (string, error) { return BindInBothModes(byName, named...) },
+		"a template":      func() (string, error) { return template.Bind(named...) },
+		"fragments":       func() (string, error) { return Bind(BackslashEscapes, "? ?", values, Identifier{"a", "b"}) },
+		"BindRows": func() (string, error) {
+			texts, err := BindRows(BackslashEscapes, byMark, [][]any{values, values})
+			return strings.Join(texts, ";"), err
+		},
+		"Names": func() (string, error) {
+			found, err := Names(BackslashEscapes, byName)
+			return fmt.Sprint(found.Query, found.Names), err
+		},
+		"NewTemplate": func() (string, error) {
+			_, err := NewTemplate(BackslashEscapes, byName)
+			return "made", err
+		},
+		"FirstUnportable": func() (string, error) {
+			found, err := FirstUnportable(BackslashEscapes, ":A [")
+			return fmt.Sprint(found), err
+		},
+	} {
+		wanted, err := call()
+		if err != nil {
+			t.Fatal(name, err)
+		}
+		refused, text := 0, ""
+		for {
+			refuseAfter(refused)
+			text, err = call()
+			refuseAfter(-1)
+			if err == nil {
+				break
+			}
+			var found *BindError
+			if !errors.As(err, &found) || found.Code != CodeOutOfMemory || !strings.HasSuffix(err.Error(), "out of memory") {
+				t.Fatal(name, err)
+			}
+			if refused++; refused > 100_000 {
+				t.Fatal(name, "never has memory")
+			}
+		}
+		if refused == 0 || text != wanted && name != "FirstUnportable" {
+			t.Error(name, refused, text)
+		}
+	}
+}
+
+// TestRefusedMemoryOfNames has the name of a place left out if there is no memory to find it.
+func TestRefusedMemoryOfNames(t *testing.T) {
+	found := &BindError{Code: CodeFault}
+	runtime.LockOSThread()
+	defer runtime.UnlockOSThread()
+	refuseAfter(0)
+	found.tellMore(&question{query: strings.Repeat(":a ", 1000)})
+	refuseAfter(-1)
+	if found.Name != "" || found.message != "" {
+		t.Error(found)
+	}
+}
+
+// TestOtherArchive has answers refused that the archive never gives.
+func TestOtherArchive(t *testing.T) {
+	runtime.LockOSThread()
+	defer runtime.UnlockOSThread()
+	calls := map[string]func() error{
+		"Bind":            func() error { _, err := Bind(BackslashEscapes, "?", 1); return err },
+		"Names":           func() error { _, err := Names(BackslashEscapes, ":a"); return err },
+		"BindRows":        func() error { _, err := BindRows(BackslashEscapes, "?", [][]any{{1}}); return err },
+		"FirstUnportable": func() error { _, err := FirstUnportable(BackslashEscapes, "?"); return err },
+	}
+	for _, told := range [][2]int{{-7, 0}, {21, 0}, {1000, 1 << 40}} {
+		for name, call := range calls {
+			if told[0] == 1000 && name == "FirstUnportable" {
+				continue // It has no length.
+			}
+			tell(told[0], told[1])
+			err := call()
+			tell(0, 0)
+			var found *BindError
+			if !errors.As(err, &found) || found.Code != CodeArchive || !strings.HasPrefix(err.Error(), "not the archive of this package: ") {
+				t.Errorf("%s: %v: %v", name, told, err)
+			}
+		}
+	}
+	tell(1000, 3)
+	_, err := Names(BackslashEscapes, ":a")
+	tell(0, 0)
+	if err == nil {
+		t.Error("an answer that is no row of strings")
+	}
+}

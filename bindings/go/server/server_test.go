@@ -1,0 +1,279 @@
+// Package server sends texts of mysqlparams by go-sql-driver to a server: SOCKET names its socket.
+package server
+
+import (
+	"context"
+	"database/sql"
+	"database/sql/driver"
+	"errors"
+	"fmt"
+	"math"
+	"math/big"
+	"os"
+	"reflect"
+	"strings"
+	"sync"
+	"testing"
+	"time"
+
+	"github.com/go-sql-driver/mysql"
+	"mysqlparams"
+)
+
+const (
+	withEscapes    = "'STRICT_TRANS_TABLES'"
+	withoutEscapes = "'STRICT_TRANS_TABLES,NO_BACKSLASH_ESCAPES'"
+)
+
+// hostile are values that leave their literal if a mode or a character set is taken for another.
+var hostile = []string{
+	"x' OR '1'='1", `\' , CURRENT_USER() -- `, `\\' -- `, `\`, `'`, `"`, "`", "\x00\n\r\x1a\t", "%s %d %%", "? :a :id", "é€😀", "\xbf\x27 OR 1=1 -- ",
+	"\xbf\x5c", "\x81\x27", "'; DROP TABLE t; -- ", "/*!50000 */", "$$", "{d'2024-01-01'}", " a ", "",
+	strings.Repeat(`'\`, 5000),
+}
+
+// open returns a pool of connections with variables of the session.
+func open(t *testing.T, params map[string]string, interpolate bool) *sql.DB {
+	t.Helper()
+	socket := os.Getenv("SOCKET")
+	if socket == "" {
+		t.Fatal("SOCKET names no socket")
+	}
+	config := mysql.NewConfig()
+	config.User, config.Net, config.Addr, config.Params, config.InterpolateParams = "root", "unix", socket, params, interpolate
+	config.Collation = "utf8mb4_general_ci"
+	connector, err := mysql.NewConnector(config)
+	check(t, err)
+	db := sql.OpenDB(connector)
+	t.Cleanup(func() { db.Close() })
+	return db
+}
+
+func check(t *testing.T, err error) {
+	t.Helper()
+	if err != nil {
+		t.Fatal(err)
+	}
+}
+
+// query is one of the calls that send.
+type query func(ctx context.Context, query string, args ...any) (*sql.Rows, error)
+
+// one returns the one value that a query gives.
+func (send query) one(t *testing.T, text string, args ...any) any {
+	t.Helper()
+	rows, err := send(context.Background(), text, args...)
+	check(t, err)
+	defer rows.Close()
+	var found any
+	if !rows.Next() {
+		t.Fatal("no row")
+	}
+	check(t, rows.Scan(&found))
+	if rows.Next() {
+		t.Error("more rows")
+	}
+	check(t, rows.Err())
+	if bytes, ok := found.([]byte); ok {
+		return string(bytes)
+	}
+	return found
+}
+
+// over returns a sending over something.
+func over(to mysqlparams.Sender) query {
+	return func(ctx context.Context, text string, args ...any) (*sql.Rows, error) {
+		return mysqlparams.QueryContext(ctx, to, text, args...)
+	}
+}
+
+// session returns a connection that was asked.
+func session(t *testing.T, db *sql.DB) *mysqlparams.Session {
+	t.Helper()
+	conn, err := db.Conn(context.Background())
+	check(t, err)
+	t.Cleanup(func() { conn.Close() })
+	asked, err := mysqlparams.Ask(context.Background(), conn)
+	check(t, err)
+	return asked
+}
+
+// TestHostileValues has each value come back as it is, by each call, in both modes, with and without the driver's own parameters.
+func TestHostileValues(t *testing.T) {
+	for _, mode := range []string{withEscapes, withoutEscapes} {
+		for _, interpolate := range []bool{false, true} {
+			db := open(t, map[string]string{"sql_mode": mode}, interpolate)
+			asked := session(t, db)
+			if (asked.Mode() == mysqlparams.NoBackslashEscapes) != (mode == withoutEscapes) {
+				t.Fatal(asked.Mode())
+			}
+			tx, err := db.Begin()
+			check(t, err)
+			for name, send := range map[string]query{"a pool": over(db), "a transaction": over(tx), "a session": asked.QueryContext} {
+				for _, value := range hostile {
+					for _, given := range []any{value, []byte(value), sql.NullString{String: value, Valid: true}} {
+						for _, text := range []string{"SELECT :a", "SELECT /* ü */ :a"} {
+							if found := send.one(t, text, sql.Named("a", given)); found != value {
+								t.Errorf("%s: %s: %q as %T is %q", mode, name, value, given, found)
+							}
+						}
+					}
+				}
+			}
+			check(t, tx.Rollback())
+		}
+	}
+}
+
+// TestStored has values stored in a table, found by each other, and counted.
+func TestStored(t *testing.T) {
+	db := open(t, map[string]string{"sql_mode": withEscapes}, false)
+	ctx := context.Background()
+	exec := func(text string, args ...any) int64 {
+		t.Helper()
+		result, err := mysqlparams.ExecContext(ctx, db, text, args...)
+		check(t, err)
+		count, err := result.RowsAffected()
+		check(t, err)
+		return count
+	}
+	exec("CREATE DATABASE IF NOT EXISTS shop CHARACTER SET utf8mb4")
+	exec("CREATE OR REPLACE TABLE shop.t (id BIGINT UNSIGNED, name VARCHAR(9000), data BLOB, price DECIMAL(30,2), x DOUBLE, at DATETIME(6), span TIME(6), b BOOL)")
+	at := time.Date(2024, 2, 29, 23, 59, 59, 999999000, time.UTC)
+	row := []any{uint64(math.MaxUint64), "it's é", []byte{0, 255, '\''}, mysqlparams.Decimal("12345678901234567890.01"), 0.1, at, -90 * time.Minute, true}
+	if exec("INSERT INTO shop.t VALUES (?, ?, ?, ?, ?, ?, ?, ?)", row...) != 1 {
+		t.Error("no row")
+	}
+	if count := over(db).one(t, "SELECT COUNT(*) FROM shop.t WHERE id = ? AND name = ? AND data = ? AND price = ? AND x = ? AND at = ? AND span = ? AND b = ?", row...); count != "1" {
+		t.Errorf("%v rows", count)
+	}
+	if count := session(t, db).QueryContext; query(count).one(t, "SELECT COUNT(*) FROM shop.t WHERE id = ? AND name = ? AND data = ? AND price = ? AND x = ? AND at = ? AND span = ? AND b = ?", row...) != "1" {
+		t.Error("in its mode")
+	}
+	rows := [][]any{{1, "a"}, {2, "b"}, {3, nil}}
+	if exec("INSERT INTO ? (id, name) VALUES ?", mysqlparams.Identifier{"shop", "t"}, rows) != 3 {
+		t.Error("not 3 rows")
+	}
+	if names := over(db).one(t, "SELECT GROUP_CONCAT(name ORDER BY :column :order) FROM shop.t WHERE id IN (:ids)", sql.Named("ids", []int{1, 2, 3}),
+		sql.Named("column", mysqlparams.Identifier{"id"}), sql.Named("order", mysqlparams.Keyword("DESC"))); names != "b,a" {
+		t.Error(names)
+	}
+	sum := new(big.Int).Exp(big.NewInt(10), big.NewInt(30), nil)
+	if found := over(db).one(t, "SELECT ? + ? = ?", sum, 1, new(big.Int).Add(sum, big.NewInt(1))); found != "1" {
+		t.Error(found)
+	}
+	texts, err := mysqlparams.BindRows(mysqlparams.BackslashEscapes, "INSERT INTO shop.t (id, name) VALUES (?, ?)", [][]any{{7, `\' -- `}, {8, "x"}})
+	check(t, err)
+	for _, text := range texts {
+		_, err := db.ExecContext(ctx, text)
+		check(t, err)
+	}
+	if found := over(db).one(t, "SELECT name FROM shop.t WHERE id = ?", 7); found != `\' -- ` {
+		t.Error(found)
+	}
+	// After SEPARATOR a server wants a plain text: a session sends one.
+	if found := query(session(t, db).QueryContext).one(t, "SELECT GROUP_CONCAT(name ORDER BY id SEPARATOR ?) FROM shop.t WHERE id IN (?)", "', '", []int{1, 2}); found != "a', 'b" {
+		t.Error(found)
+	}
+}
+
+// TestOtherCharacterSets has a session refused, and texts for any connection right all the same.
+func TestOtherCharacterSets(t *testing.T) {
+	for _, charset := range []string{"gbk", "latin1", "sjis", "utf8mb3"} {
+		db := open(t, map[string]string{"charset": charset, "sql_mode": withEscapes}, false)
+		conn, err := db.Conn(context.Background())
+		check(t, err)
+		var refused *mysqlparams.BindError
+		if _, err := mysqlparams.Ask(context.Background(), conn); !errors.As(err, &refused) || refused.Code != mysqlparams.CodeSession {
+			t.Errorf("%s: %v", charset, err)
+		}
+		if _, err := mysqlparams.QueryContext(context.Background(), db, "SELECT 'ü', ?", 1); !errors.As(err, &refused) || refused.Code != mysqlparams.CodeSession {
+			t.Errorf("%s: %v", charset, err)
+		}
+		for _, value := range hostile {
+			wanted := strings.ToUpper(fmt.Sprintf("%x", value))
+			if found := over(conn).one(t, "SELECT HEX(?)", value); found != wanted {
+				t.Errorf("%s: %q is %q", charset, value, found)
+			}
+		}
+		check(t, conn.Close())
+	}
+}
+
+// TestReconnect has the pool connect anew, to another mode, after its connections are killed.
+func TestReconnect(t *testing.T) {
+	db, killer := open(t, map[string]string{"sql_mode": "@@global.sql_mode"}, false), open(t, nil, false)
+	ctx := context.Background()
+	setMode := func(mode string) {
+		_, err := killer.ExecContext(ctx, "SET GLOBAL sql_mode = "+mode)
+		check(t, err)
+	}
+	var kept string
+	check(t, killer.QueryRow("SELECT @@global.sql_mode").Scan(&kept))
+	defer setMode("'" + kept + "'")
+	for _, mode := range []string{withEscapes, withoutEscapes, withEscapes} {
+		setMode(mode)
+		asked := session(t, db)
+		id := query(asked.QueryContext).one(t, "SELECT CONNECTION_ID()")
+		_, err := killer.ExecContext(ctx, fmt.Sprint("KILL ", id))
+		check(t, err)
+		time.Sleep(50 * time.Millisecond)
+		// A session never turns to another connection.
+		if _, err := asked.QueryContext(ctx, "SELECT ?", `\' -- `); !errors.Is(err, driver.ErrBadConn) && !errors.Is(err, mysql.ErrInvalidConn) {
+			t.Error(err)
+		}
+		for _, text := range []string{"SELECT ?", "SELECT ? -- ü"} {
+			if found := over(db).one(t, text, `\' -- `); found != `\' -- ` {
+				t.Errorf("%s: %v", mode, found)
+			}
+		}
+		if again := session(t, db); (again.Mode() == mysqlparams.NoBackslashEscapes) != (mode == withoutEscapes) {
+			t.Error(mode, again.Mode())
+		}
+	}
+}
+
+// TestPool has connections of two modes in one pool, and goroutines that take any of them.
+func TestPool(t *testing.T) {
+	db := open(t, map[string]string{"sql_mode": withEscapes}, false)
+	db.SetMaxOpenConns(4)
+	db.SetMaxIdleConns(4)
+	ctx := context.Background()
+	var conns []*sql.Conn
+	for i := 0; i < 4; i++ {
+		conn, err := db.Conn(ctx)
+		check(t, err)
+		if i%2 == 1 {
+			_, err := conn.ExecContext(ctx, "SET sql_mode = "+withoutEscapes)
+			check(t, err)
+		}
+		conns = append(conns, conn)
+	}
+	for _, conn := range conns {
+		check(t, conn.Close())
+	}
+	var group sync.WaitGroup
+	seen := map[any]bool{}
+	var lock sync.Mutex
+	for worker := 0; worker < 8; worker++ {
+		group.Add(1)
+		go func(worker int) {
+			defer group.Done()
+			for i := 0; i < 100; i++ {
+				value := fmt.Sprint(hostile[i%len(hostile)], worker, i)
+				text := []string{"SELECT CONCAT(@@sql_mode LIKE '%NO_BACK%', ?)", "SELECT CONCAT(@@sql_mode LIKE '%NO_BACK%', ?) /* ü */"}[i%2]
+				found := over(db).one(t, text, value).(string)
+				if found[1:] != value {
+					t.Errorf("%q is %q", value, found)
+				}
+				lock.Lock()
+				seen[found[:1]] = true
+				lock.Unlock()
+			}
+		}(worker)
+	}
+	group.Wait()
+	if !reflect.DeepEqual(seen, map[any]bool{"0": true, "1": true}) || db.Stats().InUse != 0 {
+		t.Error(seen, db.Stats().InUse)
+	}
+}
