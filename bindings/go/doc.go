@@ -27,3 +27,6 @@
 // for every input. This package, which hands values in and answers out, is tested and not proved. It calls the archive by cgo;
 // a bind is one such call. All functions and types are safe for goroutines.
 package mysqlparams
+
+// Version is the version of the package, and of the archive.
+const Version = "0.1.0"
