@@ -99,7 +99,8 @@ func (r *room) ask(q *question) C.int32_t {
 		return C.mysql_params_bind_fragments_wide(query, queryLen, form, formLen, mode, text, textLen, &r.report)
 	case q.call == callTemplate:
 		places, placesLen := q.table.placesAt()
-		return C.mysql_params_bind_template_wide(query, queryLen, &q.table.head, places, placesLen, form, formLen, mode,
+		return C.mysql_params_bind_template_wide(query, queryLen, &q.table.head, places, placesLen, form,
+			formLen, mode,
 			text, textLen, &r.report)
 	default:
 		return C.mysql_params_bind_wide(query, queryLen, form, formLen, mode, text, textLen, &r.report)
@@ -149,8 +150,8 @@ func wrongArchive(why string) error {
 type Mode bool
 
 const (
-	// BackslashEscapes is the mode of a connection whose sql_mode lacks NO_BACKSLASH_ESCAPES, as servers have it unless told
-	// otherwise.
+	// BackslashEscapes is the mode of a connection whose sql_mode lacks NO_BACKSLASH_ESCAPES, as servers have
+	// it unless told otherwise.
 	BackslashEscapes Mode = false
 	// NoBackslashEscapes is the mode of a connection whose sql_mode has NO_BACKSLASH_ESCAPES.
 	NoBackslashEscapes Mode = true

@@ -4,30 +4,31 @@ import "time"
 
 // Binder binds with options. The functions of the package are those of the zero Binder.
 type Binder struct {
-	// Location is whose clock each time.Time is written by, as time.UTC where the session's @@time_zone is '+00:00'. If it is nil,
-	// each is written as its own clock shows it.
+	// Location is whose clock each time.Time is written by, as time.UTC where the session's @@time_zone is
+	// '+00:00'. If it is nil, each is written as its own clock shows it.
 	Location *time.Location
 }
 
-// BindAnywhere returns the query with literals that depend on no connection: no sql_mode and no character set reads the text
-// otherwise, on MySQL or MariaDB. Nothing has to be asked before it is sent.
+// BindAnywhere returns the query with literals that depend on no connection: no sql_mode and no character set
+// reads the text otherwise, on MySQL or MariaDB. Nothing has to be asked before it is sent.
 //
-// The query has to be ASCII without a backslash, also in its comments, and portable. A text is written as `_utf8mb4'it”s'` or
-// `_utf8mb4 0xC3A9`.
+// The query has to be ASCII without a backslash, also in its comments, and portable. A text is written as
+// `_utf8mb4'it”s'` or `_utf8mb4 0xC3A9`.
 func BindAnywhere(query string, args ...any) (string, error) {
 	return Binder{}.BindAnywhere(query, args...)
 }
 
-// Bind returns the query with the literals of the values in its places, for a connection of the mode over utf8mb4: the text to
-// send. Ask FirstUnportable of the query before. If the mode is not the connection's, a value can leave its literal: Ask asks
-// for it.
+// Bind returns the query with the literals of the values in its places, for a connection of the mode over
+// utf8mb4: the text to send. Ask FirstUnportable of the query before. If the mode is not the connection's, a
+// value can leave its literal: Ask asks for it.
 func Bind(mode Mode, query string, args ...any) (string, error) {
 	return Binder{}.Bind(mode, query, args...)
 }
 
-// BindInBothModes returns the text of BindAnywhere for a query that may have bytes from 128 on: no sql_mode reads it otherwise.
-// The connection's character set has to be that of the query, utf8mb4 for UTF-8. No string of the query may hold a backslash.
-// Each place takes one value, which is no float and no exact number.
+// BindInBothModes returns the text of BindAnywhere for a query that may have bytes from 128 on: no sql_mode
+// reads it otherwise. The connection's character set has to be that of the query, utf8mb4 for UTF-8. No
+// string of the query may hold a backslash. Each place takes one value, which is no float and no exact
+// number.
 func BindInBothModes(query string, args ...any) (string, error) {
 	return Binder{}.BindInBothModes(query, args...)
 }

@@ -289,7 +289,8 @@ func (c *sharedCase) expectRefusal(t *testing.T, text string, err error, row int
 	if c.message != "" && found.message != c.wantedMessage() || !strings.HasPrefix(found.message, c.messageInC) {
 		t.Errorf("%q: %s", c.lines, found.message)
 	}
-	if row < 0 && err.Error() != found.message || row >= 0 && err.Error() != fmt.Sprintf("row %d: %s", row, found.message) {
+	if row < 0 && err.Error() != found.message || row >= 0 && err.Error() != fmt.Sprintf("row %d: %s", row,
+		found.message) {
 		t.Errorf("%q: %s", c.lines, err)
 	}
 }
@@ -405,7 +406,8 @@ func TestCasesOfNames(t *testing.T) {
 		found, err := Names(c.mode, c.query)
 		if c.refusal != "" {
 			c.expectRefusal(t, found.Query, err, -1)
-		} else if err != nil || found.Query != c.renamed || strings.Join(found.Names, " ") != strings.Join(c.names, " ") {
+		} else if err != nil || found.Query != c.renamed ||
+			strings.Join(found.Names, " ") != strings.Join(c.names, " ") {
 			t.Errorf("%q: %v, %v", c.lines, found, err)
 		}
 	}
@@ -419,7 +421,8 @@ func TestCasesOfConstructs(t *testing.T) {
 			found, err := ask(c.mode, c.query)
 			if err != nil || c.portable != (found == nil) {
 				t.Errorf("%q: %v, %v", c.lines, found, err)
-			} else if found != nil && (constructs[found.Construct-1] != c.construct || found.Position != c.field("position") ||
+			} else if found != nil && (constructs[found.Construct-1] != c.construct ||
+				found.Position != c.field("position") ||
 				c.message != "" && found.Construct.String() != c.message) {
 				t.Errorf("%q: %v", c.lines, found)
 			}
@@ -436,7 +439,8 @@ func TestLongValues(t *testing.T) {
 			t.Errorf("%d: %v", length, err)
 		}
 		texts, err := BindRows(BackslashEscapes, "?", [][]any{{1}, {value}, {math.Pi}, {value}})
-		if err != nil || !reflect.DeepEqual(texts, []string{"1", "'" + value + "'", "3.141592653589793e0", "'" + value + "'"}) {
+		if err != nil || !reflect.DeepEqual(texts, []string{"1", "'" + value + "'", "3.141592653589793e0",
+			"'" + value + "'"}) {
 			t.Errorf("%d: %d texts, %v", length, len(texts), err)
 		}
 	}

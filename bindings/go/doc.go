@@ -3,10 +3,11 @@
 //	text, err := mysqlparams.BindAnywhere("SELECT * FROM t WHERE id = :id", sql.Named("id", 42))
 //	rows, err := db.QueryContext(ctx, text)
 //
-// QueryContext and ExecContext do both. Arguments are sql.NamedArg for the names of a query, or values in order for its
-// marks. A name is a colon, a letter or `_`, and all letters, digits and `_` that follow, as `:userId`. Letters are those of
-// ASCII, and names are told apart by case. Each colon before a letter or `_` begins a name, except in strings, quoted
-// identifiers and comments. So `x:LOOP` is refused, and `x: LOOP` is sent as it is.
+// QueryContext and ExecContext do both. Arguments are sql.NamedArg for the names of a query, or values in
+// order for its marks. A name is a colon, a letter or `_`, and all letters, digits and `_` that follow, as
+// `:userId`. Letters are those of ASCII, and names are told apart by case. Each colon before a letter or `_`
+// begins a name, except in strings, quoted identifiers and comments. So `x:LOOP` is refused, and `x: LOOP` is
+// sent as it is.
 //
 // A value is one of these; pointers to them are followed, and a nil pointer is NULL:
 //
@@ -23,9 +24,10 @@
 //
 // A struct, a map, an array, a channel and a func are refused by name. No method String is called.
 //
-// The archive libmysql_params_c.a answers each call. What it answers is stated in the repository's docs/RULES.md and proved
-// for every input. This package, which hands values in and answers out, is tested and not proved. It calls the archive by cgo;
-// a bind is one such call. All functions and types are safe for goroutines.
+// The archive libmysql_params_c.a answers each call. What it answers is stated in the repository's
+// docs/RULES.md and proved for every input. This package, which hands values in and answers out, is tested
+// and not proved. It calls the archive by cgo; a bind is one such call. All functions and types are safe for
+// goroutines.
 package mysqlparams
 
 // Version is the version of the package, and of the archive.

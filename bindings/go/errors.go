@@ -50,28 +50,31 @@ const (
 	FaultBackslash     Fault = 10 // a name with a backslash before a backquote or at its end
 )
 
-// BindError is each refusal of this package: errors.As finds it. Numbers of places, arguments, rows and bytes begin at 0.
+// BindError is each refusal of this package: errors.As finds it. Numbers of places, arguments, rows and bytes
+// begin at 0.
 type BindError struct {
 	// Code says which refusal it is.
 	Code Code
 	// Place is the number of the place in the query for CodeMissing, CodeNotAlone, CodeFloat, CodeFault and
-	// CodeUnsteadyFragment. For those of the form from CodeFormEnd to CodeRepeatedName, and for CodeValue, it is the number of
-	// the argument.
+	// CodeUnsteadyFragment. For those of the form from CodeFormEnd to CodeRepeatedName, and for CodeValue, it
+	// is the number of the argument.
 	Place int
-	// Position is the byte of the query at which the name of CodeMissing begins, after its colon; the place of CodeNotAlone; the
-	// construct of CodeUnportable; and the byte of CodeUnsteady and CodeBackslash. For those of the form it is a byte of the form.
+	// Position is the byte of the query at which the name of CodeMissing begins, after its colon; the place
+	// of CodeNotAlone; the construct of CodeUnportable; and the byte of CodeUnsteady and CodeBackslash. For
+	// those of the form it is a byte of the form.
 	Position int
-	// Name is the name that is missing or given twice; the name of the place of CodeFloat, CodeFault and CodeUnsteadyFragment,
-	// if it has one; and of the argument of CodeValue.
+	// Name is the name that is missing or given twice; the name of the place of CodeFloat, CodeFault and
+	// CodeUnsteadyFragment, if it has one; and of the argument of CodeValue.
 	Name string
-	// Word is the word of the query, without its colon, in which a letter that no name has stands, as in `:größe`, if that may
-	// be why CodeMissing, CodeNotAlone or CodeNamedForPositional came.
+	// Word is the word of the query, without its colon, in which a letter that no name has stands, as in
+	// `:größe`, if that may be why CodeMissing, CodeNotAlone or CodeNamedForPositional came.
 	Word string
 	// Marks and Values are the marks of the query and the arguments of CodeMarkCount.
 	Marks, Values int
 	// Construct is that of CodeUnportable.
 	Construct Construct
-	// Fault, InRow and Item say what is wrong for CodeFault, in which row, and in which item, or name of an Identifier.
+	// Fault, InRow and Item say what is wrong for CodeFault, in which row, and in which item, or name of an
+	// Identifier.
 	Fault       Fault
 	InRow, Item int
 	// Byte is the byte of CodeFormLengthLead and CodeFormType.
@@ -83,8 +86,8 @@ type BindError struct {
 	cause   error
 }
 
-// Error returns what is wrong in one line, without a value. It is what mysql_params_message of C says, with the name of the place
-// behind it.
+// Error returns what is wrong in one line, without a value. It is what mysql_params_message of C says, with
+// the name of the place behind it.
 func (e *BindError) Error() string {
 	if e.Row >= 0 {
 		return "row " + strconv.Itoa(e.Row) + ": " + e.message

@@ -7,11 +7,12 @@ import (
 	"strconv"
 )
 
-// Decimal is an exact number by its digits, as "-1.50". It is written bare, so that a server compares and computes it exactly.
+// Decimal is an exact number by its digits, as "-1.50". It is written bare, so that a server compares and
+// computes it exactly.
 type Decimal string
 
-// Identifier is the name of a table or a column, and before it that of what it is in: Identifier{"shop", "t"}. It is written in
-// backquotes, each of which in a name is doubled. A point in a name is a part of it.
+// Identifier is the name of a table or a column, and before it that of what it is in: Identifier{"shop",
+// "t"}. It is written in backquotes, each of which in a name is doubled. A point in a name is a part of it.
 type Identifier []string
 
 // KeywordOf is a keyword of the program. Keyword and KeywordAmong make one.
@@ -20,8 +21,8 @@ type KeywordOf struct{ word string }
 // constant is a text of the program: outside of this package only a constant without a type is one by itself.
 type constant string
 
-// Keyword returns a keyword, one of Keywords. Its text is a constant of the program, as in Keyword("DESC"): a variable doesn't
-// compile. Another word is refused with FaultKeyword when it is bound.
+// Keyword returns a keyword, one of Keywords. Its text is a constant of the program, as in Keyword("DESC"): a
+// variable doesn't compile. Another word is refused with FaultKeyword when it is bound.
 func Keyword(word constant) KeywordOf { return KeywordOf{string(word)} }
 
 // KeywordAmong returns the keyword that a text says, if it is among those of the program:
@@ -37,7 +38,8 @@ func KeywordAmong(word string, among ...constant) (KeywordOf, error) {
 	if choice == "" {
 		choice = ", none"
 	}
-	return KeywordOf{}, &BindError{Code: CodeValue, Row: -1, message: "the word is none of the keywords " + choice[2:]}
+	return KeywordOf{}, &BindError{Code: CodeValue, Row: -1,
+		message: "the word is none of the keywords " + choice[2:]}
 }
 
 // String returns the word.
@@ -154,10 +156,10 @@ func (w *writer) items(slice any) error {
 			w.text(item)
 		}
 	default:
-		items2 := reflect.ValueOf(slice)
-		w.count(items2.Len())
-		for i := 0; i < items2.Len(); i++ {
-			if err := w.value(items2.Index(i).Interface(), itemLevel); err != nil {
+		values := reflect.ValueOf(slice)
+		w.count(values.Len())
+		for i := 0; i < values.Len(); i++ {
+			if err := w.value(values.Index(i).Interface(), itemLevel); err != nil {
 				return err
 			}
 		}
@@ -165,7 +167,8 @@ func (w *writer) items(slice any) error {
 	return nil
 }
 
-// rowsOf returns a slice whose elements are all rows, and whether they are. Rows and values in one slice are refused.
+// rowsOf returns a slice whose elements are all rows, and whether they are. Rows and values in one slice are
+// refused.
 func (w *writer) rowsOf(slice any) (reflect.Value, bool, error) {
 	values := reflect.ValueOf(slice)
 	if values.Type().Elem().Kind() != reflect.Interface {
@@ -178,18 +181,20 @@ func (w *writer) rowsOf(slice any) (reflect.Value, bool, error) {
 		}
 	}
 	if rows > 0 && rows < values.Len() {
-		return values, false, w.refuseValue("has rows and values: give a slice of values, or one of rows alone")
+		return values, false, w.refuseValue("has rows and values: give a slice of values, or one of rows only")
 	}
 	return values, rows > 0, nil
 }
 
 var (
 	valuerType     = reflect.TypeOf((*driver.Valuer)(nil)).Elem()
+	byteType       = reflect.TypeOf(byte(0))
 	identifierType = reflect.TypeOf(Identifier(nil))
 )
 
-// isRowType returns whether values of a type are rows: slices, except those of bytes, Identifiers and what has a method Value.
+// isRowType returns whether values of a type are rows: slices, except those of bytes, Identifiers and what
+// has a method Value.
 func isRowType(kind reflect.Type) bool {
-	return kind.Kind() == reflect.Slice && kind.Elem().Kind() != reflect.Uint8 && kind != identifierType &&
+	return kind.Kind() == reflect.Slice && kind.Elem() != byteType && kind != identifierType &&
 		!kind.Implements(valuerType)
 }

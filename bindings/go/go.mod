@@ -1,3 +1,3 @@
 module mysqlparams
 
-go 1.18
+go 1.19

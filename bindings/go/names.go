@@ -11,8 +11,8 @@ type NamesOf struct {
 	Names []string // the names without their colons, in order, with repeats
 }
 
-// Names returns the names of a query that is read in a mode. A query without names comes back as it is. A query with names
-// and marks is refused.
+// Names returns the names of a query that is read in a mode. A query without names comes back as it is. A
+// query with names and marks is refused.
 func Names(mode Mode, query string) (NamesOf, error) {
 	if err := ready(); err != nil {
 		return NamesOf{}, err

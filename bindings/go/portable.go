@@ -10,7 +10,7 @@ import "strconv"
 // Construct is a construct that servers, or a client, read in different ways.
 type Construct int
 
-// The constructs of mysql_params.h. Those from OpenerInComment to ZeroByte are found for a client alone.
+// The constructs of mysql_params.h. Those from OpenerInComment to ZeroByte are found only for a client.
 const (
 	ExecutableComment   Construct = 1
 	Hint                Construct = 2
@@ -45,23 +45,24 @@ func (c Construct) String() string {
 // Unportable is a construct of a query, and where it begins.
 type Unportable struct {
 	Construct Construct
-	// Position is the byte of the query at which it begins. Of what is found within a string, a quoted identifier or a comment it
-	// is the first byte of that, of a place after an exponent the digit or point before the `e`.
+	// Position is the byte of the query at which it begins. Of what is found within a string, a quoted
+	// identifier or a comment it is the first byte of that, of a place after an exponent the digit or point
+	// before the `e`.
 	Position int
 
 	query string
 }
 
-// FirstUnportable returns the first construct of a query that servers read in different ways; nil if there is none. Ask it of
-// each query, once, before you bind to it by Bind. The error says that there is no memory.
+// FirstUnportable returns the first construct of a query that servers read in different ways; nil if there is
+// none. Ask it of each query, once, before you bind to it by Bind. The error says that there is no memory.
 func FirstUnportable(mode Mode, query string) (*Unportable, error) {
 	return inServers.found(mode, query)
 }
 
-// FirstUnportableInClient returns the same for a query whose bound text goes through the client mysql or mariadb with
-// --comments: it finds also what that reads or sends otherwise than a server. It judges the bytes that it is given. A bound text
-// with an Identifier or a keyword, or with strings without backslash escapes, may hold a construct that its query doesn't have: ask
-// it of that text too.
+// FirstUnportableInClient returns the same for a query whose bound text goes through the client mysql or
+// mariadb with --comments: it finds also what that reads or sends otherwise than a server. It judges the
+// bytes that it is given. A bound text with an Identifier or a keyword, or with strings without backslash
+// escapes, may hold a construct that its query doesn't have: ask it of that text too.
 func FirstUnportableInClient(mode Mode, query string) (*Unportable, error) {
 	return inClient.found(mode, query)
 }
@@ -90,11 +91,13 @@ func (ask firstUnportable) found(mode Mode, query string) (*Unportable, error) {
 	return &Unportable{Construct: Construct(number), Position: int(r.report.position), query: query}, nil
 }
 
-var inServers firstUnportable = func(query *C.uint8_t, length C.size_t, mode C.bool, report *C.mysql_params_report) C.int32_t {
+var inServers firstUnportable = func(query *C.uint8_t, length C.size_t, mode C.bool,
+	report *C.mysql_params_report) C.int32_t {
 	return C.mysql_params_first_unportable_wide(query, length, mode, report)
 }
 
-var inClient firstUnportable = func(query *C.uint8_t, length C.size_t, mode C.bool, report *C.mysql_params_report) C.int32_t {
+var inClient firstUnportable = func(query *C.uint8_t, length C.size_t, mode C.bool,
+	report *C.mysql_params_report) C.int32_t {
 	return C.mysql_params_first_unportable_in_client_wide(query, length, mode, report)
 }
 

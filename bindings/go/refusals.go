@@ -52,7 +52,8 @@ func (r *room) refusalOf(number C.int32_t, q *question, form string) error {
 	case CodeUnportable:
 		found.Construct = Construct(report.byte)
 	case CodeFault:
-		found.Fault, found.InRow, found.Item, found.Position = Fault(report.byte), found.Position, int(report.values), 0
+		found.Fault, found.Item = Fault(report.byte), int(report.values)
+		found.InRow, found.Position = found.Position, 0
 	}
 	found.message = r.message(number, source)
 	if number == C.MYSQL_PARAMS_ROOM || number < 0 || number > C.MYSQL_PARAMS_OTHER_TABLE {

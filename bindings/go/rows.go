@@ -7,7 +7,8 @@ import "C"
 
 import "unsafe"
 
-// mostForms is how long the forms of rows get before they are bound: few enough to stay in a processor's cache with their texts.
+// mostForms is how long the forms of rows get before they are bound: few enough to stay in a processor's
+// cache with their texts.
 const mostForms = 1 << 15
 
 // stringOf returns bytes as a text, which is read before they change.
@@ -15,11 +16,12 @@ func stringOf(bytes []byte) string {
 	return *(*string)(unsafe.Pointer(&bytes))
 }
 
-// BindRows returns the text of each row: what Bind returns for the query and the row's arguments. The query is parsed once for
-// many rows. Each place takes what Bind takes; a row with a float or another fragment is bound by itself.
+// BindRows returns the text of each row: what Bind returns for the query and the row's arguments. The query
+// is parsed once for many rows. Each place takes what Bind takes; a row with a float or another fragment is
+// bound by itself.
 //
-// The first row that is refused ends the call. The error is a BindError with its number in Row, and the texts are those of the
-// rows before it. Texts share memory with their neighbours.
+// The first row that is refused ends the call. The error is a BindError with its number in Row, and the texts
+// are those of the rows before it. Texts share memory with their neighbours.
 func BindRows(mode Mode, query string, rows [][]any) ([]string, error) {
 	return Binder{}.BindRows(mode, query, rows)
 }
@@ -144,15 +146,16 @@ func (b *batch) refused(number C.int32_t, forms []byte) error {
 	return inRow(b.room.refusalOf(number, &b.question, form), len(b.texts))
 }
 
-// bindSome has the archive bind rows, and takes the texts of those that it has bound. It returns the number, and how many bytes
-// of the forms were read.
+// bindSome has the archive bind rows, and takes the texts of those that it has bound. It returns the number,
+// and how many bytes of the forms were read.
 func (b *batch) bindSome(forms []byte) (C.int32_t, int, error) {
 	r := b.room
 	r.have(2*len(forms) + b.waiting*(len(b.question.query)+longestHead))
 	query, queryLen := bytesOf(b.question.query)
 	at, length := roomOf(forms)
 	text, textLen := roomOf(r.text)
-	number := C.mysql_params_bind_rows_wide(query, queryLen, at, length, C.bool(b.question.mode), text, textLen, &r.rows,
+	number := C.mysql_params_bind_rows_wide(query, queryLen, at, length, C.bool(b.question.mode), text, textLen,
+		&r.rows,
 		&r.report)
 	written, read, count := int(r.rows.written), int(r.rows.read), int(r.rows.count)
 	if written > len(r.text) || read > len(forms) || count > b.waiting {

@@ -21,9 +21,9 @@ type pool interface {
 
 // QueryContext binds a query, and sends the text without arguments, so that the driver sends it as it is.
 //
-// The text is that of BindAnywhere, which is right for any connection: nothing is asked. Only of a query with a backslash or a
-// byte from 128 on the connection that sends it is asked first, as by Ask. Where a server wants a plain text, as after SEPARATOR,
-// take a Session.
+// The text is that of BindAnywhere, which is right for any connection: nothing is asked. Only of a query with
+// a backslash or a byte from 128 on the connection that sends it is asked first, as by Ask. Where a server
+// wants a plain text, as after SEPARATOR, take a Session.
 func QueryContext(ctx context.Context, to Sender, query string, args ...any) (*sql.Rows, error) {
 	return Binder{}.QueryContext(ctx, to, query, args...)
 }
@@ -74,7 +74,8 @@ func (b Binder) ExecContext(ctx context.Context, to Sender, query string, args .
 	return session.ExecContext(ctx, query, args...)
 }
 
-// isUnsteady returns whether only BindAnywhere refuses so: for a query or a name that isn't ASCII without a backslash.
+// isUnsteady returns whether only BindAnywhere refuses so: for a query or a name that isn't ASCII without a
+// backslash.
 func isUnsteady(err error) bool {
 	var refused *BindError
 	return errors.As(err, &refused) && (refused.Code == CodeUnsteady || refused.Code == CodeUnsteadyFragment)
@@ -103,17 +104,17 @@ func (b Binder) askOne(ctx context.Context, to Sender) (*Session, *sql.Conn, err
 	}
 }
 
-// Session is a connection that was asked for its mode and its character sets. It sends texts of Bind in that mode, with plain
-// literals. It holds as long as the connection does, which a *sql.Conn or a *sql.Tx never changes by itself: after a SET of
-// sql_mode or a character set call Ask again.
+// Session is a connection that was asked for its mode and its character sets. It sends texts of Bind in that
+// mode, with plain literals. It holds as long as the connection does, which a *sql.Conn or a *sql.Tx never
+// changes by itself: after a SET of sql_mode or a character set call Ask again.
 type Session struct {
 	conn   Sender
 	mode   Mode
 	binder Binder
 }
 
-// Ask asks a *sql.Conn or a *sql.Tx for its sql_mode and its character sets. It refuses those that aren't utf8mb4, and a pool,
-// whose connections may differ, with CodeSession.
+// Ask asks a *sql.Conn or a *sql.Tx for its sql_mode and its character sets. It refuses those that aren't
+// utf8mb4, and a pool, whose connections may differ, with CodeSession.
 func Ask(ctx context.Context, conn Sender) (*Session, error) {
 	return Binder{}.Ask(ctx, conn)
 }
@@ -167,7 +168,8 @@ func ModeOf(sqlMode string) Mode {
 // Mode returns the mode of the connection.
 func (s *Session) Mode() Mode { return s.mode }
 
-// Bind returns the text of Bind in the mode of the connection. It refuses a query that isn't portable with CodeUnportable.
+// Bind returns the text of Bind in the mode of the connection. It refuses a query that isn't portable with
+// CodeUnportable.
 func (s *Session) Bind(query string, args ...any) (string, error) {
 	found, err := FirstUnportable(s.mode, query)
 	if err != nil {

@@ -130,7 +130,8 @@ func TestSentWithoutAQuestion(t *testing.T) {
 		if err := send(t, to, "SELECT :a", sql.Named("a", hostile)); err != nil {
 			t.Error(err)
 		}
-		if !reflect.DeepEqual(server.texts, []string{"SELECT _utf8mb4 0x5C27202C2037202D2D20", "SELECT _utf8mb4 0x5C27202C2037202D2D20"}) {
+		if !reflect.DeepEqual(server.texts, []string{"SELECT _utf8mb4 0x5C27202C2037202D2D20",
+			"SELECT _utf8mb4 0x5C27202C2037202D2D20"}) {
 			t.Errorf("%T: %q", to, server.texts)
 		}
 	}
@@ -193,7 +194,8 @@ func TestRefusedSessions(t *testing.T) {
 		server.client, server.own = charset[0], charset[1]
 		for _, to := range connections(t, db) {
 			var found *BindError
-			if err := send(t, to, "SELECT ü, ?", 1); !errors.As(err, &found) || found.Code != CodeSession || err.Error() != wanted {
+			if err := send(t, to, "SELECT ü, ?", 1); !errors.As(err, &found) || found.Code != CodeSession ||
+				err.Error() != wanted {
 				t.Error(err)
 			}
 		}
@@ -226,7 +228,8 @@ func TestSessions(t *testing.T) {
 				t.Fatal(err)
 			}
 		}
-		if server.asked != 1 || len(server.texts) != 6 || server.texts[4] != `SELECT '\'' , 7 -- '` || server.texts[5] != "SELECT 'b'" {
+		if server.asked != 1 || len(server.texts) != 6 || server.texts[4] != `SELECT '\'' , 7 -- '` ||
+			server.texts[5] != "SELECT 'b'" {
 			t.Errorf("%q, asked %d times", server.texts, server.asked)
 		}
 		var found *BindError
@@ -235,7 +238,8 @@ func TestSessions(t *testing.T) {
 			err.Error() != "Not portable at byte 7 of the query: `[` may open an identifier: write the name in backquotes" {
 			t.Error(err)
 		}
-		if _, err := session.QueryContext(context.Background(), "SELECT ?"); !errors.As(err, &found) || found.Code != CodeMarkCount {
+		if _, err := session.QueryContext(context.Background(), "SELECT ?"); !errors.As(err, &found) ||
+			found.Code != CodeMarkCount {
 			t.Error(err)
 		}
 	}
@@ -244,7 +248,8 @@ func TestSessions(t *testing.T) {
 func TestSentRefusals(t *testing.T) {
 	server, db := open(t, "", "utf8mb4")
 	var found *BindError
-	for query, code := range map[string]Code{"SELECT ?": CodeMarkCount, "SELECT [a": CodeUnportable, "SELECT ü, [a": CodeUnportable, "ü ?": CodeMarkCount} {
+	for query, code := range map[string]Code{"SELECT ?": CodeMarkCount, "SELECT [a": CodeUnportable,
+		"SELECT ü, [a": CodeUnportable, "ü ?": CodeMarkCount} {
 		if err := send(t, db, query); !errors.As(err, &found) || found.Code != code {
 			t.Errorf("%s: %v", query, err)
 		}

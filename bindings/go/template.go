@@ -25,8 +25,8 @@ type Template struct {
 	places []C.mysql_params_place
 }
 
-// NewTemplate finds the places of a query in a mode. A query that can't be bound is refused when it is bound. The error says
-// that there is no memory.
+// NewTemplate finds the places of a query in a mode. A query that can't be bound is refused when it is bound.
+// The error says that there is no memory.
 func NewTemplate(mode Mode, query string) (*Template, error) {
 	if err := ready(); err != nil {
 		return nil, err

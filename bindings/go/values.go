@@ -23,7 +23,7 @@ func (w *writer) value(value any, at level) error {
 	return w.valueOf(value, at, longestChain)
 }
 
-// valueOf writes a value to which so many steps may lead. The types that most values are of come first.
+// valueOf writes a value to which so many steps may lead. It has the types that most values are of.
 func (w *writer) valueOf(value any, at level, steps int) error {
 	switch v := value.(type) {
 	case nil:
@@ -42,14 +42,18 @@ func (w *writer) valueOf(value any, at level, steps int) error {
 		w.double(v)
 	case time.Time:
 		return w.time(v)
-	case uint64:
-		w.uint(v)
-	case int32:
-		w.int(int64(v))
-	case uint32:
-		w.uint(uint64(v))
-	case float32:
-		w.float(v)
+	case []any, []int, []int64, []string, [][]any:
+		return w.list(v, at)
+	default:
+		return w.otherValue(value, at, steps)
+	}
+	return nil
+}
+
+// otherValue writes a value of another type: those that have a meaning here, then what has a method Value,
+// then by kind.
+func (w *writer) otherValue(value any, at level, steps int) error {
+	switch v := value.(type) {
 	case time.Duration:
 		w.duration(v)
 	case *big.Int:
@@ -60,8 +64,6 @@ func (w *writer) valueOf(value any, at level, steps int) error {
 		return w.identifier(v, at)
 	case KeywordOf:
 		return w.keyword(v, at)
-	case []any, []int, []int64, []string, [][]any:
-		return w.list(v, at)
 	case driver.Valuer:
 		return w.valuer(v, at, steps)
 	default:
@@ -70,7 +72,8 @@ func (w *writer) valueOf(value any, at level, steps int) error {
 	return nil
 }
 
-// valuer writes what a driver.Valuer returns; NULL for a nil pointer whose type has the method of what it points to.
+// valuer writes what a driver.Valuer returns; NULL for a nil pointer whose type has the method of what it
+// points to.
 func (w *writer) valuer(valuer driver.Valuer, at level, steps int) error {
 	if steps == 0 {
 		return w.refuseValue("is a driver.Valuer or a pointer that leads to no value")
@@ -107,7 +110,7 @@ func (w *writer) byKind(value reflect.Value, at level, steps int) error {
 	case reflect.Pointer:
 		return w.pointer(value, at, steps)
 	case reflect.Slice:
-		if value.Type().Elem().Kind() == reflect.Uint8 {
+		if value.Type().Elem() == byteType {
 			w.bytes(value.Bytes())
 			return nil
 		}

@@ -18,6 +18,7 @@ import (
 type (
 	status   int8
 	small    uint16
+	color    uint8
 	truth    bool
 	label    string
 	raw      []byte
@@ -81,29 +82,40 @@ func TestValues(t *testing.T) {
 		{status(-1), "-1"}, {small(7), "7"}, {'a', "97"},
 		{"it's", `'it\'s'`}, {"", "''"}, {label("é"), "'é'"}, {"a\x00", `'a\0'`},
 		{[]byte("it's"), `'it\'s'`}, {[]byte{}, "''"}, {[]byte(nil), "NULL"}, {raw("x"), "'x'"}, {raw(nil), "NULL"},
+		{[]color{1, 2}, "1, 2"}, {[][]color{{1}, {2}}, "(1), (2)"},
 		{json.RawMessage(`{"a":1}`), `'{\"a\":1}'`}, {json.Number("1.50"), "'1.50'"},
 		{"\xff\x00", "0xFF00"}, {[]byte{0xC3, 0x28}, "0xC328"},
-		{1.5, "1.5e0"}, {float32(0.1), "0.10000000149011612e0"}, {ratio(-0.25), "-0.25e0"}, {math.MaxFloat64, "1.7976931348623157e308"},
-		{summer, "'2024-07-01 14:30:00'"}, {summer.UTC(), "'2024-07-01 12:30:00'"}, {&summer, "'2024-07-01 14:30:00'"},
+		{1.5, "1.5e0"}, {float32(0.1), "0.10000000149011612e0"}, {ratio(-0.25), "-0.25e0"}, {math.MaxFloat64,
+			"1.7976931348623157e308"},
+		{summer, "'2024-07-01 14:30:00'"}, {summer.UTC(), "'2024-07-01 12:30:00'"}, {&summer,
+			"'2024-07-01 14:30:00'"},
 		{time.Time{}, "'0001-01-01'"}, {time.Date(2024, 2, 29, 0, 0, 0, 0, time.UTC), "'2024-02-29'"},
 		{time.Date(2024, 2, 29, 1, 2, 3, 999999499, time.UTC), "'2024-02-29 01:02:03.999999'"},
 		{time.Date(2024, 2, 28, 23, 59, 59, 999999500, time.UTC), "'2024-02-29'"},
 		{time.Date(9999, 12, 31, 23, 59, 59, 999999000, time.UTC), "'9999-12-31 23:59:59.999999'"},
-		{time.Duration(0), "'000:00:00'"}, {-time.Microsecond, "'-000:00:00.000001'"}, {26*time.Hour + 500*time.Nanosecond, "'026:00:00.000001'"},
+		{time.Duration(0), "'000:00:00'"}, {-time.Microsecond,
+			"'-000:00:00.000001'"}, {26*time.Hour + 500*time.Nanosecond, "'026:00:00.000001'"},
 		{time.Duration(math.MinInt64), "'-2562047:47:16.854776'"},
 		{bigOf("-5"), "-5"}, {bigOf("18446744073709551615"), "18446744073709551615"}, {(*big.Int)(nil), "NULL"},
 		{bigOf("-170141183460469231731687303715884105728"), "-170141183460469231731687303715884105728"},
 		{Decimal("-1.50"), "-1.50"}, {Decimal(strings.Repeat("9", 65)), strings.Repeat("9", 65)},
-		{(*int)(nil), "NULL"}, {(*string)(nil), "NULL"}, {(*shape)(nil), "NULL"}, {nested, "7"}, {pointerTo("a"), "'a'"},
-		{sql.NullString{String: "a", Valid: true}, "'a'"}, {sql.NullString{}, "NULL"}, {sql.NullInt64{Int64: 5, Valid: true}, "5"},
-		{sql.NullFloat64{Float64: 0.5, Valid: true}, "0.5e0"}, {sql.NullBool{Bool: true, Valid: true}, "1"}, {&sql.NullInt32{}, "NULL"},
+		{(*int)(nil), "NULL"}, {(*string)(nil), "NULL"}, {(*shape)(nil), "NULL"}, {nested, "7"}, {pointerTo("a"),
+			"'a'"},
+		{sql.NullString{String: "a", Valid: true}, "'a'"}, {sql.NullString{},
+			"NULL"}, {sql.NullInt64{Int64: 5, Valid: true}, "5"},
+		{sql.NullFloat64{Float64: 0.5, Valid: true}, "0.5e0"}, {sql.NullBool{Bool: true, Valid: true},
+			"1"}, {&sql.NullInt32{}, "NULL"},
 		{sql.NullTime{Time: summer, Valid: true}, "'2024-07-01 14:30:00'"}, {sql.RawBytes("x"), "'x'"},
-		{upper{"a"}, "'A'"}, {&upper{"a"}, "'A'"}, {(*upper)(nil), "NULL"}, {&pointed{"a"}, "'a'"}, {ids{1, 2}, "'[1 2]'"},
+		{upper{"a"}, "'A'"}, {&upper{"a"}, "'A'"}, {(*upper)(nil), "NULL"}, {&pointed{"a"}, "'a'"}, {ids{1, 2},
+			"'[1 2]'"},
 		{toWide{}, "18446744073709551615"},
-		{[]int{1, -2}, "1, -2"}, {[]int64{3}, "3"}, {[]string{"a", "b"}, "'a', 'b'"}, {[]any{1, "a", nil, 0.5, Decimal("0.10")}, "1, 'a', NULL, 0.5e0, 0.10"},
-		{labels{"a", "b"}, "'a', 'b'"}, {[][]byte{[]byte("a"), {0xff}, nil}, "'a', 0xFF, NULL"}, {[]uint16{1, 2}, "1, 2"},
+		{[]int{1, -2}, "1, -2"}, {[]int64{3}, "3"}, {[]string{"a", "b"},
+			"'a', 'b'"}, {[]any{1, "a", nil, 0.5, Decimal("0.10")}, "1, 'a', NULL, 0.5e0, 0.10"},
+		{labels{"a", "b"}, "'a', 'b'"}, {[][]byte{[]byte("a"), {0xff}, nil}, "'a', 0xFF, NULL"}, {[]uint16{1, 2},
+			"1, 2"},
 		{[]*int{pointerTo(1), nil}, "1, NULL"}, {[]sql.NullString{{}, {String: "x", Valid: true}}, "NULL, 'x'"},
-		{[]time.Duration{time.Second}, "'000:00:01'"}, {&[]int{1}, "1"}, {[]any{bigOf("99999999999999999999"), upper{"b"}}, "99999999999999999999, 'B'"},
+		{[]time.Duration{time.Second}, "'000:00:01'"}, {&[]int{1}, "1"}, {[]any{bigOf("99999999999999999999"),
+			upper{"b"}}, "99999999999999999999, 'B'"},
 		{[]ids{{1}, {2}}, "'[1]', '[2]'"},
 		{[][]any{{1, "a"}, {2, nil}}, "(1, 'a'), (2, NULL)"}, {[][]int{{1, 2}, {3, 4}}, "(1, 2), (3, 4)"},
 		{[]any{[]any{1, 2.5}, []int{3, 4}}, "(1, 2.5e0), (3, 4)"}, {[][][]byte{{[]byte("a")}}, "('a')"},
@@ -145,15 +157,19 @@ func TestRefusedValues(t *testing.T) {
 		{big.NewRat(1, 3), "is of type big.Rat, which has no literal: give its parts, or json.Marshal's bytes of it"},
 		{*big.NewInt(1), "is of type big.Int, which has no literal: give its parts, or json.Marshal's bytes of it"},
 		{sql.Out{}, "is of type sql.Out, which has no literal: give its parts, or json.Marshal's bytes of it"},
-		{time.Date(10000, 1, 1, 0, 0, 0, 0, time.UTC), "is a time.Time of the year 10000, and a date has years from 0 to 9999"},
-		{time.Date(9999, 12, 31, 23, 59, 59, 999999999, time.UTC), "is a time.Time of the year 10000, and a date has years from 0 to 9999"},
-		{time.Date(-1, 1, 1, 0, 0, 0, 0, time.UTC), "is a time.Time of the year -1, and a date has years from 0 to 9999"},
+		{time.Date(10000, 1, 1, 0, 0, 0, 0, time.UTC),
+			"is a time.Time of the year 10000, and a date has years from 0 to 9999"},
+		{time.Date(9999, 12, 31, 23, 59, 59, 999999999, time.UTC),
+			"is a time.Time of the year 10000, and a date has years from 0 to 9999"},
+		{time.Date(-1, 1, 1, 0, 0, 0, 0, time.UTC),
+			"is a time.Time of the year -1, and a date has years from 0 to 9999"},
 		{Decimal(strings.Repeat("9", 66)), "is an exact number of 66 digits, and servers keep 65: round it"},
-		{new(big.Int).Exp(big.NewInt(10), big.NewInt(65), nil), "is an exact number of 66 digits, and servers keep 65: round it"},
+		{new(big.Int).Exp(big.NewInt(10), big.NewInt(65), nil),
+			"is an exact number of 66 digits, and servers keep 65: round it"},
 		{endless{}, "is a driver.Valuer or a pointer that leads to no value"},
 		{endlessPointer, "is a driver.Valuer or a pointer that leads to no value"},
-		{[]any{1, []any{2}}, "has rows and values: give a slice of values, or one of rows alone"},
-		{[]any{[]any{1}, nil}, "has rows and values: give a slice of values, or one of rows alone"},
+		{[]any{1, []any{2}}, "has rows and values: give a slice of values, or one of rows only"},
+		{[]any{[]any{1}, nil}, "has rows and values: give a slice of values, or one of rows only"},
 		{[][]any{{1, []int{2}}}, "has a slice in a row: rows are of values"},
 		{[][][]int{{{1}}}, "has a slice in a row: rows are of values"},
 		{[]any{Identifier{"a"}}, "has an item that is an Identifier: lists and rows are of values, so write a place for each"},
@@ -161,11 +177,13 @@ func TestRefusedValues(t *testing.T) {
 		{[]any{map[string]int{}}, "is of type map[string]int, which has no literal: give its parts, or json.Marshal's bytes of it"},
 	} {
 		found := refused(t, c.value)
-		if found.Code != CodeValue || found.Place != 0 || found.Row != -1 || found.Error() != "the value for place 0 "+c.says {
+		if found.Code != CodeValue || found.Place != 0 || found.Row != -1 ||
+			found.Error() != "the value for place 0 "+c.says {
 			t.Errorf("%T: %s", c.value, found)
 		}
 		_, err := Bind(BackslashEscapes, ":a + :b", sql.Named("a", 1), sql.Named("b", c.value))
-		if !errors.As(err, &found) || found.Name != "b" || found.Place != 1 || err.Error() != "the value of `:b` "+c.says {
+		if !errors.As(err, &found) || found.Name != "b" || found.Place != 1 ||
+			err.Error() != "the value of `:b` "+c.says {
 			t.Errorf("%T: %s", c.value, err)
 		}
 	}
@@ -181,12 +199,14 @@ func TestRefusedByTheArchive(t *testing.T) {
 	}{
 		{math.NaN(), CodeFloat, 0, 0}, {math.Inf(-1), CodeFloat, 0, 0}, {float32(math.Inf(1)), CodeFloat, 0, 0},
 		{[]any{1, math.NaN()}, CodeFloat, 0, 0},
-		{[]int{}, CodeFault, FaultEmpty, 0}, {[]int(nil), CodeFault, FaultEmpty, 0}, {[]any{}, CodeFault, FaultEmpty, 0},
+		{[]int{}, CodeFault, FaultEmpty, 0}, {[]int(nil), CodeFault, FaultEmpty, 0}, {[]any{}, CodeFault,
+			FaultEmpty, 0},
 		{[][]any{}, CodeFault, FaultEmpty, 0}, {[][]any{{}}, CodeFault, FaultEmptyRow, 0},
 		{[][]any{{1, 2}, {3, 4}, {5}}, CodeFault, FaultRowLength, 2}, {Decimal("1e5"), CodeFault, FaultNumber, 0},
 		{Decimal(""), CodeFault, FaultNumber, 0}, {Decimal("1; DROP"), CodeFault, FaultNumber, 0},
 		{Identifier{}, CodeFault, FaultEmpty, 0}, {Identifier{""}, CodeFault, FaultEmptyName, 0},
-		{Identifier{"a\x00"}, CodeFault, FaultZeroByte, 0}, {Identifier{strings.Repeat("a", 65)}, CodeFault, FaultLongName, 0},
+		{Identifier{"a\x00"}, CodeFault, FaultZeroByte, 0}, {Identifier{strings.Repeat("a", 65)}, CodeFault,
+			FaultLongName, 0},
 		{Identifier{"a "}, CodeFault, FaultTrailingSpace, 0}, {Identifier{`a\`}, CodeFault, FaultBackslash, 0},
 		{Keyword("DROP"), CodeFault, FaultKeyword, 0}, {KeywordOf{}, CodeFault, FaultKeyword, 0},
 	} {
@@ -214,7 +234,8 @@ func TestArguments(t *testing.T) {
 		message string
 	}{
 		{":a", []any{sql.Named("", 1)}, CodeValue, "Parameter 0 has an empty name"},
-		{":a, :b", []any{sql.Named("a", 1), 2}, CodeFormMixed, "Parameter 1 at byte 12 of the form: Named and positional params in one form"},
+		{":a, :b", []any{sql.Named("a", 1), 2}, CodeFormMixed,
+			"Parameter 1 at byte 12 of the form: Named and positional params in one form"},
 		{":a", []any{sql.Named("a", 1), sql.Named("a", 2)}, CodeRepeatedName, "Redefinition of named parameter `a'"},
 		{"?", nil, CodeMarkCount, "Query has 1 marks and 0 values"},
 		{"1?", []any{1}, CodeNotAlone, "Place 0 at byte 1 does not stand alone"},
@@ -240,7 +261,8 @@ func TestOneValue(t *testing.T) {
 	if err != nil || text != "bücher _utf8mb4 0xC3A9, -7" {
 		t.Errorf("%q, %v", text, err)
 	}
-	for _, value := range []any{[]int{1}, Identifier{"a"}, Keyword("ASC"), Decimal("1"), bigOf("99999999999999999999"), 0.5} {
+	for _, value := range []any{[]int{1}, Identifier{"a"}, Keyword("ASC"), Decimal("1"),
+		bigOf("99999999999999999999"), 0.5} {
 		var found *BindError
 		_, err := BindInBothModes("ü :a", sql.Named("a", value))
 		wanted := CodeValue
@@ -335,14 +357,16 @@ func TestRows(t *testing.T) {
 		for _, c := range []struct {
 			row  []any
 			code Code
-		}{{[]any{1, shape{}}, CodeValue}, {[]any{1}, CodeMarkCount}, {[]any{1, math.NaN()}, CodeFloat}, {[]any{0.5}, CodeMarkCount}} {
+		}{{[]any{1, shape{}}, CodeValue}, {[]any{1}, CodeMarkCount}, {[]any{1, math.NaN()},
+			CodeFloat}, {[]any{0.5}, CodeMarkCount}} {
 			kept := rows[at]
 			rows[at] = c.row
 			texts, err := BindRows(BackslashEscapes, "(?, ?)", rows)
 			rows[at] = kept
 			var found *BindError
 			if !errors.As(err, &found) || found.Row != at || found.Code != c.code || len(texts) != at ||
-				!reflect.DeepEqual(texts, wanted[:at]) || !strings.HasPrefix(err.Error(), fmt.Sprint("row ", at, ": ")) {
+				!reflect.DeepEqual(texts, wanted[:at]) || !strings.HasPrefix(err.Error(), fmt.Sprint("row ", at,
+				": ")) {
 				t.Errorf("%d: %d texts, %v", at, len(texts), err)
 			}
 		}
@@ -353,7 +377,8 @@ func TestRows(t *testing.T) {
 func TestRowsInOrder(t *testing.T) {
 	texts, err := BindRows(BackslashEscapes, "?", [][]any{{1}, {1, 2}, {shape{}}})
 	var found *BindError
-	if !errors.As(err, &found) || found.Row != 1 || found.Code != CodeMarkCount || !reflect.DeepEqual(texts, []string{"1"}) {
+	if !errors.As(err, &found) || found.Row != 1 || found.Code != CodeMarkCount ||
+		!reflect.DeepEqual(texts, []string{"1"}) {
 		t.Error(texts, err)
 	}
 }
@@ -391,7 +416,8 @@ func TestProcessor(t *testing.T) {
 		"FirstUnportable": func() error { _, err := FirstUnportable(BackslashEscapes, ""); return err },
 	} {
 		var found *BindError
-		if err := call(); !errors.As(err, &found) || found.Code != CodeProcessor || err.Error() != "the processor lacks a feature of x86-64-v2" {
+		if err := call(); !errors.As(err, &found) || found.Code != CodeProcessor ||
+			err.Error() != "the processor lacks a feature of x86-64-v2" {
 			t.Errorf("%s: %v", name, err)
 		}
 	}

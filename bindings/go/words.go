@@ -5,7 +5,7 @@ func isOfNames(b byte) bool {
 	return b == '_' || '0' <= b && b <= '9' || 'A' <= b && b <= 'Z' || 'a' <= b && b <= 'z'
 }
 
-// wordAt returns the word that begins at a byte of a query, if it isn't a name alone.
+// wordAt returns the word that begins at a byte of a query, if it is more than a name.
 func wordAt(query string, begin int) string {
 	if begin < 0 || begin > len(query) {
 		return ""
@@ -21,7 +21,8 @@ func wordAt(query string, begin int) string {
 	return query[begin:end]
 }
 
-// wordOfPlace returns the word that begins with the name of the place at a byte of a query, if it isn't a name alone.
+// wordOfPlace returns the word that begins with the name of the place at a byte of a query, if it isn't a
+// name alone.
 func wordOfPlace(query string, position int) string {
 	if position >= 0 && position < len(query) && query[position] == ':' {
 		return wordAt(query, position+1)

@@ -22,8 +22,8 @@ const (
 // writer writes arguments as the flat form of mysql_params.h.
 type writer struct {
 	form      []byte
-	fragments bool           // whether the form has what the calls for fragments take alone
-	single    bool           // whether a place takes one value alone
+	fragments bool           // whether the form has what only the calls for fragments take
+	single    bool           // whether a place takes only one value
 	location  *time.Location // whose clock a time.Time is written by; nil for its own
 	name      string         // the name of the argument that is written
 	number    int            // its number
@@ -78,6 +78,16 @@ func (w *writer) refuseValue(is string) error {
 	return w.refuse(w.which() + " " + is)
 }
 
+// string writes a length-encoded string.
+func (w *writer) string(text string) {
+	if len(text) < 251 {
+		w.form = append(append(w.form, byte(len(text))), text...)
+		return
+	}
+	w.length(len(text))
+	w.form = append(w.form, text...)
+}
+
 // length writes a length as the protocol has it.
 func (w *writer) length(count int) {
 	switch {
@@ -92,12 +102,6 @@ func (w *writer) length(count int) {
 	}
 }
 
-// string writes a length-encoded string.
-func (w *writer) string(text string) {
-	w.length(len(text))
-	w.form = append(w.form, text...)
-}
-
 // null writes NULL.
 func (w *writer) null() {
 	w.form = append(w.form, typeNull, 0)
@@ -105,12 +109,19 @@ func (w *writer) null() {
 
 // int writes a signed whole number.
 func (w *writer) int(number int64) {
-	w.form = binary.LittleEndian.AppendUint64(append(w.form, typeLongLong, 0), uint64(number))
+	w.whole64(uint64(number), 0)
 }
 
 // uint writes an unsigned whole number.
 func (w *writer) uint(number uint64) {
-	w.form = binary.LittleEndian.AppendUint64(append(w.form, typeLongLong, flagUnsigned), number)
+	w.whole64(number, flagUnsigned)
+}
+
+// whole64 writes the bits of a whole number, by one append, which is what most of a form's time goes into.
+func (w *writer) whole64(n uint64, flags byte) {
+	w.form = append(w.form, typeLongLong, flags, byte(n), byte(n>>8), byte(n>>16), byte(n>>24), byte(n>>32),
+		byte(n>>40),
+		byte(n>>48), byte(n>>56))
 }
 
 // bool writes 1 or 0.
@@ -124,6 +135,10 @@ func (w *writer) bool(truth bool) {
 
 // text writes a text.
 func (w *writer) text(text string) {
+	if len(text) < 251 {
+		w.form = append(append(w.form, typeString, 0, byte(len(text))), text...)
+		return
+	}
 	w.form = append(w.form, typeString, 0)
 	w.string(text)
 }
@@ -162,7 +177,8 @@ func (w *writer) time(moment time.Time) error {
 	if year < 0 || year > 9999 {
 		return w.refuseValue("is a time.Time of the year " + strconv.Itoa(year) + ", and a date has years from 0 to 9999")
 	}
-	w.form = append(w.form, typeDatetime, 0, 11, byte(year), byte(year>>8), byte(month), byte(day), byte(hour), byte(minute),
+	w.form = append(w.form, typeDatetime, 0, 11, byte(year), byte(year>>8), byte(month), byte(day), byte(hour),
+		byte(minute),
 		byte(second))
 	w.form = binary.LittleEndian.AppendUint32(w.form, uint32(moment.Nanosecond()/1000))
 	return nil
@@ -203,7 +219,7 @@ const mostDigits = 65
 // decimal writes an exact number.
 func (w *writer) decimal(text string) error {
 	if w.single {
-		return w.refuseValue("is an exact number, and a place takes one value here: give its digits as a string, and write CAST(" +
+		return w.refuseValue("is an exact number, and a place takes one value here: give its digits as a string, and CAST(" +
 			w.mark() + " AS DECIMAL(65,30)): a text in arithmetic is a double")
 	}
 	digits := 0

@@ -3,6 +3,7 @@ package main
 import (
 	"bytes"
 	"context"
+	"database/sql"
 	"database/sql/driver"
 	"net"
 	"time"
@@ -16,7 +17,7 @@ import (
 //go:linkname interpolateParams github.com/go-sql-driver/mysql.(*mysqlConn).interpolateParams
 func interpolateParams(conn unsafe.Pointer, query string, args []driver.Value) (string, error)
 
-// nothing is a server that greets, takes any password, and answers nothing else.
+// nothing is a server that greets, takes any password, and says OK to each packet.
 type nothing struct{ unread bytes.Buffer }
 
 // greeting is a packet of the protocol 10, with the capabilities of 4.1 and the plug-in of a plain password.
@@ -32,7 +33,7 @@ func (n *nothing) send(number byte, packet string) {
 func (n *nothing) Read(to []byte) (int, error) { return n.unread.Read(to) }
 
 func (n *nothing) Write(from []byte) (int, error) {
-	n.send(2, "\x00\x00\x00\x02\x00\x00\x00")
+	n.send(from[3]+1, "\x00\x00\x00\x02\x00\x00\x00")
 	return len(from), nil
 }
 
@@ -43,8 +44,8 @@ func (n *nothing) SetDeadline(time.Time) error      { return nil }
 func (n *nothing) SetReadDeadline(time.Time) error  { return nil }
 func (n *nothing) SetWriteDeadline(time.Time) error { return nil }
 
-// driverOverNothing returns the driver's interpolateParams over a connection to no server.
-func driverOverNothing() func(query string, args []driver.Value) string {
+// overNothing returns a pool of connections to no server.
+func overNothing() *sql.DB {
 	mysql.RegisterDialContext("nothing", func(context.Context, string) (net.Conn, error) {
 		server := &nothing{}
 		server.send(0, greeting)
@@ -55,9 +56,21 @@ func driverOverNothing() func(query string, args []driver.Value) string {
 	config.MaxAllowedPacket = 1 << 26
 	connector, err := mysql.NewConnector(config)
 	must("", err)
-	conn, err := connector.Connect(context.Background())
+	db := sql.OpenDB(connector)
+	db.SetMaxOpenConns(1)
+	return db
+}
+
+// ownOf returns the driver's interpolateParams over the connection of a pool.
+func ownOf(db *sql.DB) func(query string, args []driver.Value) string {
+	var at unsafe.Pointer
+	conn, err := db.Conn(context.Background())
 	must("", err)
-	at := (*[2]unsafe.Pointer)(unsafe.Pointer(&conn))[1]
+	must("", conn.Raw(func(own any) error {
+		at = (*[2]unsafe.Pointer)(unsafe.Pointer(&own))[1]
+		return nil
+	}))
+	must("", conn.Close())
 	return func(query string, args []driver.Value) string {
 		return must(interpolateParams(at, query, args))
 	}

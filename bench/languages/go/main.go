@@ -1,7 +1,9 @@
-// The bench times texts of mysqlparams beside go-sql-driver's interpolateParams in one process, and prints rows of a table.
+// The bench times texts of mysqlparams beside go-sql-driver's interpolateParams in one process, and prints
+// rows of a table.
 package main
 
 import (
+	"context"
 	"database/sql"
 	"database/sql/driver"
 	"fmt"
@@ -24,8 +26,10 @@ var names = []struct {
 	name  string
 	value any
 }{
-	{"id", int64(42)}, {"name", "it's a name"}, {"city", "Dublin"}, {"born", int64(1990)}, {"since", "2019-11-27"}, {"active", true},
-	{"email", "someone@example.com"}, {"note", nil}, {"score", int64(-7)}, {"street", "O'Connell Street"}, {"country", "Ireland"}, {"limit", int64(100)},
+	{"id", int64(42)}, {"name", "it's a name"}, {"city", "Dublin"}, {"born", int64(1990)}, {"since",
+		"2019-11-27"}, {"active", true},
+	{"email", "someone@example.com"}, {"note", nil}, {"score", int64(-7)}, {"street",
+		"O'Connell Street"}, {"country", "Ireland"}, {"limit", int64(100)},
 }
 
 // queries returns the query with names, and with marks.
@@ -106,14 +110,21 @@ func ofNames(driversOwn func(string, []driver.Value) string) {
 	var named, values []any
 	var drivers []driver.Value
 	for _, one := range names {
-		named, values, drivers = append(named, sql.Named(one.name, one.value)), append(values, one.value), append(drivers, one.value)
+		named, values, drivers = append(named, sql.Named(one.name, one.value)), append(values,
+			one.value), append(drivers, one.value)
 	}
 	made, err := mysqlparams.NewTemplate(mysqlparams.BackslashEscapes, byName)
 	must("", err)
 	ways := []way{
 		{"interpolateParams", func() string { return driversOwn(byMark, drivers) }},
-		{"Bind, by marks", func() string { return must(mysqlparams.Bind(mysqlparams.BackslashEscapes, byMark, values...)) }},
-		{"Bind, by names", func() string { return must(mysqlparams.Bind(mysqlparams.BackslashEscapes, byName, named...)) }},
+		{"Bind, by marks", func() string {
+			return must(mysqlparams.Bind(mysqlparams.BackslashEscapes, byMark,
+				values...))
+		}},
+		{"Bind, by names", func() string {
+			return must(mysqlparams.Bind(mysqlparams.BackslashEscapes, byName,
+				named...))
+		}},
 		{"Template.Bind, by names", func() string { return must(made.Bind(named...)) }},
 	}
 	same(ways...)
@@ -159,8 +170,35 @@ func ofRows(driversOwn func(string, []driver.Value) string) {
 	table("100,000 rows, one text", 1, one)
 }
 
+// ofSending times the same query of 12 values sent over a pool, to a server that says OK.
+func ofSending(db *sql.DB) {
+	byName, byMark := queries()
+	var named, values []any
+	for _, one := range names {
+		named, values = append(named, sql.Named(one.name, one.value)), append(values, one.value)
+	}
+	ctx := context.Background()
+	sent := func(_ sql.Result, err error) string { return must("", err) }
+	table("12 values, sent", calls, []way{
+		{"db.ExecContext with interpolateParams", func() string {
+			return sent(db.ExecContext(ctx, byMark,
+				values...))
+		}},
+		{"ExecContext, by marks", func() string {
+			return sent(mysqlparams.ExecContext(ctx, db, byMark,
+				values...))
+		}},
+		{"ExecContext, by names", func() string {
+			return sent(mysqlparams.ExecContext(ctx, db, byName,
+				named...))
+		}},
+	})
+}
+
 func main() {
-	driversOwn := driverOverNothing()
-	ofNames(driversOwn)
-	ofRows(driversOwn)
+	db := overNothing()
+	own := ownOf(db)
+	ofNames(own)
+	ofSending(db)
+	ofRows(own)
 }

@@ -11,5 +11,6 @@ import "C"
 // refuseAfter has the thread's allocations refused after so many. None is if it is less than 0.
 func refuseAfter(count int) { C.refuse_after(C.long(count)) }
 
-// tell has the archive's calls of the thread answer with a number, and a length, in place of what they find; not if it is 0.
+// tell has the archive's calls of the thread answer with a number, and a length, in place of what they find;
+// not if it is 0.
 func tell(number, length int) { C.tell(C.int32_t(number), C.size_t(length)) }

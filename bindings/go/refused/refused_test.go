@@ -9,7 +9,8 @@ import (
 	"testing"
 )
 
-// TestRefusedMemory has each allocation of each call refused, one after another, until the call has what it needs.
+// TestRefusedMemory has each allocation of each call refused, one after another, until the call has what it
+// needs.
 func TestRefusedMemory(t *testing.T) {
 	runtime.LockOSThread()
 	defer runtime.UnlockOSThread()
@@ -28,7 +29,10 @@ func TestRefusedMemory(t *testing.T) {
 		"BindAnywhere":    func() (string, error) { return BindAnywhere(byName, named...) },
 		"BindInBothModes": func() (string, error) { return BindInBothModes(byName, named...) },
 		"a template":      func() (string, error) { return template.Bind(named...) },
-		"fragments":       func() (string, error) { return Bind(BackslashEscapes, "? ?", values, Identifier{"a", "b"}) },
+		"fragments": func() (string, error) {
+			return Bind(BackslashEscapes, "? ?", values,
+				Identifier{"a", "b"})
+		},
 		"BindRows": func() (string, error) {
 			texts, err := BindRows(BackslashEscapes, byMark, [][]any{values, values})
 			return strings.Join(texts, ";"), err
@@ -59,7 +63,8 @@ func TestRefusedMemory(t *testing.T) {
 				break
 			}
 			var found *BindError
-			if !errors.As(err, &found) || found.Code != CodeOutOfMemory || !strings.HasSuffix(err.Error(), "out of memory") {
+			if !errors.As(err, &found) || found.Code != CodeOutOfMemory ||
+				!strings.HasSuffix(err.Error(), "out of memory") {
 				t.Fatal(name, err)
 			}
 			if refused++; refused > 100_000 {
@@ -104,7 +109,8 @@ func TestOtherArchive(t *testing.T) {
 			err := call()
 			tell(0, 0)
 			var found *BindError
-			if !errors.As(err, &found) || found.Code != CodeArchive || !strings.HasPrefix(err.Error(), "not the archive of this package: ") {
+			if !errors.As(err, &found) || found.Code != CodeArchive ||
+				!strings.HasPrefix(err.Error(), "not the archive of this package: ") {
 				t.Errorf("%s: %v: %v", name, told, err)
 			}
 		}

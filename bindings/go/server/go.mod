@@ -1,6 +1,6 @@
 module mysqlparams_server
 
-go 1.18
+go 1.19
 
 require (
 	github.com/go-sql-driver/mysql v1.5.0
