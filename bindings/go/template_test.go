@@ -4,7 +4,6 @@ import (
 	"database/sql"
 	"errors"
 	"fmt"
-	"os"
 	"runtime"
 	"strings"
 	"sync"
@@ -78,37 +77,4 @@ func TestGoroutines(t *testing.T) {
 		}(worker)
 	}
 	group.Wait()
-}
-
-// TestMemory has no memory of C grow by templates and refusals that are let go.
-func TestMemory(t *testing.T) {
-	resident := func() int {
-		runtime.GC()
-		return residentPages()
-	}
-	work := func() {
-		for i := 0; i < 20_000; i++ {
-			template, err := NewTemplate(BackslashEscapes, "SELECT :a, :b, :a")
-			if err != nil {
-				t.Fatal(err)
-			}
-			if _, err := template.Bind(sql.Named("a", "it's")); err == nil {
-				t.Fatal("no refusal")
-			}
-		}
-	}
-	work()
-	before := resident()
-	work()
-	work()
-	if after := resident(); after > before+1024 {
-		t.Errorf("%d pages more", after-before)
-	}
-}
-
-// residentPages returns how many pages of memory the process has.
-func residentPages() int {
-	bytes, err := os.ReadFile("/proc/self/statm")
-	must(nil, err)
-	return number(strings.Fields(string(bytes))[1])
 }

@@ -4,6 +4,7 @@
 #include "mysql_params.h"
 
 static __thread long left = -1;
+static __thread long taken = 0;
 static __thread int32_t told = 0;
 static __thread size_t told_len = 0;
 
@@ -30,20 +31,42 @@ static bool refuses(void)
 void *__real_malloc(size_t len);
 void *__real_calloc(size_t count, size_t len);
 void *__real_realloc(void *at, size_t len);
+void __real_free(void *at);
+
+/* Counts a block that is taken. */
+static void *counted(void *at)
+{
+    taken += at != NULL;
+    return at;
+}
 
 void *__wrap_malloc(size_t len)
 {
-    return refuses() ? NULL : __real_malloc(len);
+    return refuses() ? NULL : counted(__real_malloc(len));
 }
 
 void *__wrap_calloc(size_t count, size_t len)
 {
-    return refuses() ? NULL : __real_calloc(count, len);
+    return refuses() ? NULL : counted(__real_calloc(count, len));
 }
 
 void *__wrap_realloc(void *at, size_t len)
 {
-    return refuses() ? NULL : __real_realloc(at, len);
+    if (refuses())
+        return NULL;
+    void *made = __real_realloc(at, len);
+    return at == NULL ? counted(made) : made;
+}
+
+void __wrap_free(void *at)
+{
+    taken -= at != NULL;
+    __real_free(at);
+}
+
+long blocks(void)
+{
+    return taken;
 }
 
 /* Returns what is told; a number above 999 is DONE. */

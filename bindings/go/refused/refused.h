@@ -3,4 +3,5 @@
 #include <stdint.h>
 
 void refuse_after(long count);
+long blocks(void);
 void tell(int32_t number, size_t len);

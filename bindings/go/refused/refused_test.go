@@ -10,7 +10,7 @@ import (
 )
 
 // TestRefusedMemory has each allocation of each call refused, one after another, until the call has what it
-// needs.
+// needs. No block is kept.
 func TestRefusedMemory(t *testing.T) {
 	runtime.LockOSThread()
 	defer runtime.UnlockOSThread()
@@ -54,7 +54,7 @@ func TestRefusedMemory(t *testing.T) {
 		if err != nil {
 			t.Fatal(name, err)
 		}
-		refused, text := 0, ""
+		refused, text, before := 0, "", blocks()
 		for {
 			refuseAfter(refused)
 			text, err = call()
@@ -70,6 +70,9 @@ func TestRefusedMemory(t *testing.T) {
 			if refused++; refused > 100_000 {
 				t.Fatal(name, "never has memory")
 			}
+		}
+		if blocks() != before {
+			t.Errorf("%s: %d blocks aren't given back", name, blocks()-before)
 		}
 		if refused == 0 || text != wanted && name != "FirstUnportable" {
 			t.Error(name, refused, text)
