@@ -108,22 +108,48 @@ func (w *writer) list(slice any, at level) error {
 		return w.refuseValue("has a slice in a row: rows are of values")
 	}
 	w.fragments = true
-	if rows, isOfRows, err := w.rowsOf(slice); err != nil || isOfRows {
-		if err != nil {
-			return err
+	if rows, ok := slice.([][]any); ok {
+		w.beginRows(len(rows))
+		for _, row := range rows {
+			if err := w.anyItems(row); err != nil {
+				return err
+			}
 		}
-		return w.rows(rows)
+		return nil
+	}
+	rows, err := w.areRows(slice)
+	if err != nil {
+		return err
+	}
+	if rows {
+		return w.rows(reflect.ValueOf(slice))
 	}
 	w.form = append(w.form, typeList, 0)
 	return w.items(slice)
 }
 
+// beginRows begins so many rows.
+func (w *writer) beginRows(count int) {
+	w.form = append(w.form, typeRows, 0)
+	w.count(count)
+}
+
 // rows writes rows.
 func (w *writer) rows(rows reflect.Value) error {
-	w.form = append(w.form, typeRows, 0)
-	w.count(rows.Len())
+	w.beginRows(rows.Len())
 	for i := 0; i < rows.Len(); i++ {
 		if err := w.items(rows.Index(i).Interface()); err != nil {
+			return err
+		}
+	}
+	return nil
+}
+
+// anyItems writes the count of items, and these.
+func (w *writer) anyItems(items []any) error {
+	w.count(len(items))
+	for _, item := range items {
+		if err := w.value(item, itemLevel); err != nil {
 			return err
 		}
 	}
@@ -134,12 +160,7 @@ func (w *writer) rows(rows reflect.Value) error {
 func (w *writer) items(slice any) error {
 	switch items := slice.(type) {
 	case []any:
-		w.count(len(items))
-		for _, item := range items {
-			if err := w.value(item, itemLevel); err != nil {
-				return err
-			}
-		}
+		return w.anyItems(items)
 	case []int:
 		w.count(len(items))
 		for _, item := range items {
@@ -156,10 +177,10 @@ func (w *writer) items(slice any) error {
 			w.text(item)
 		}
 	default:
-		values := reflect.ValueOf(slice)
-		w.count(values.Len())
-		for i := 0; i < values.Len(); i++ {
-			if err := w.value(values.Index(i).Interface(), itemLevel); err != nil {
+		elements := reflect.ValueOf(slice)
+		w.count(elements.Len())
+		for i := 0; i < elements.Len(); i++ {
+			if err := w.value(elements.Index(i).Interface(), itemLevel); err != nil {
 				return err
 			}
 		}
@@ -167,23 +188,41 @@ func (w *writer) items(slice any) error {
 	return nil
 }
 
-// rowsOf returns a slice whose elements are all rows, and whether they are. Rows and values in one slice are
-// refused.
-func (w *writer) rowsOf(slice any) (reflect.Value, bool, error) {
-	values := reflect.ValueOf(slice)
-	if values.Type().Elem().Kind() != reflect.Interface {
-		return values, isRowType(values.Type().Elem()), nil
+// areRows returns whether the elements of a slice are rows. Rows and values in one slice are refused.
+func (w *writer) areRows(slice any) (bool, error) {
+	values, ok := slice.([]any)
+	if !ok {
+		kind := reflect.TypeOf(slice).Elem()
+		if kind.Kind() != reflect.Interface {
+			return isRowType(kind), nil
+		}
+		of := reflect.ValueOf(slice)
+		for i := 0; i < of.Len(); i++ {
+			values = append(values, of.Index(i).Interface())
+		}
 	}
 	rows := 0
-	for i := 0; i < values.Len(); i++ {
-		if element := values.Index(i).Elem(); element.IsValid() && isRowType(element.Type()) {
+	for _, value := range values {
+		if isRow(value) {
 			rows++
 		}
 	}
-	if rows > 0 && rows < values.Len() {
-		return values, false, w.refuseValue("has rows and values: give a slice of values, or one of rows only")
+	if rows > 0 && rows < len(values) {
+		return false, w.refuseValue("has rows and values: give a slice of values, or one of rows only")
 	}
-	return values, rows > 0, nil
+	return rows > 0, nil
+}
+
+// isRow returns whether a value is a row.
+func isRow(value any) bool {
+	switch value.(type) {
+	case nil, int, int64, string, []byte, bool, float64:
+		return false
+	case []any:
+		return true
+	default:
+		return isRowType(reflect.TypeOf(value))
+	}
 }
 
 var (

@@ -21,9 +21,9 @@ type pool interface {
 
 // QueryContext binds a query, and sends the text without arguments, so that the driver sends it as it is.
 //
-// The text is that of BindAnywhere, which is right for any connection: nothing is asked. Only of a query with
-// a backslash or a byte from 128 on the connection that sends it is asked first, as by Ask. Where a server
-// wants a plain text, as after SEPARATOR, take a Session.
+// The text is that of BindAnywhere, which is right for any connection: nothing is asked. If the query or an
+// Identifier has a backslash or a byte from 128 on, the connection that sends it is asked first, as by Ask, and the
+// text is that of Session.Bind. Where a server wants a plain text, as after SEPARATOR, take a Session.
 func QueryContext(ctx context.Context, to Sender, query string, args ...any) (*sql.Rows, error) {
 	return Binder{}.QueryContext(ctx, to, query, args...)
 }

@@ -118,7 +118,8 @@ func TestValues(t *testing.T) {
 			upper{"b"}}, "99999999999999999999, 'B'"},
 		{[]ids{{1}, {2}}, "'[1]', '[2]'"},
 		{[][]any{{1, "a"}, {2, nil}}, "(1, 'a'), (2, NULL)"}, {[][]int{{1, 2}, {3, 4}}, "(1, 2), (3, 4)"},
-		{[]any{[]any{1, 2.5}, []int{3, 4}}, "(1, 2.5e0), (3, 4)"}, {[][][]byte{{[]byte("a")}}, "('a')"},
+		{[]any{[]any{1, 2.5}, []int{3, 4}}, "(1, 2.5e0), (3, 4)"},
+		{[]fmt.Stringer{status(1), nil}, "1, NULL"}, {[]driver.Valuer{ids{1}, ids{2}}, "'[1]', '[2]'"}, {[][][]byte{{[]byte("a")}}, "('a')"},
 		{Identifier{"a`b"}, "`a``b`"}, {Identifier{"shop", "t.x"}, "`shop`.`t.x`"}, {Keyword("DESC"), "DESC"},
 	} {
 		if text := bound(t, c.value); text != c.wanted {
