@@ -9,6 +9,7 @@ import (
 	"fmt"
 	"math"
 	"math/big"
+	"math/rand"
 	"os"
 	"reflect"
 	"strings"
@@ -132,6 +133,42 @@ func TestHostileValues(t *testing.T) {
 				}
 			}
 			check(t, tx.Rollback())
+		}
+	}
+}
+
+// TestRandomValues has bytes of those that end, escape or hide a literal come back as they are, many in one query.
+func TestRandomValues(t *testing.T) {
+	const count = 50
+	source := rand.New(rand.NewSource(1))
+	pieces := strings.Split("\\ ' \" ` \x00 \n \x1a -- /* */ ; ? :a % _ $$ é € \xff \xbf' \xc3 a 0 0x _utf8mb4' ü", " ")
+	query := "SELECT " + strings.TrimSuffix(strings.Repeat("HEX(?), ", count), ", ")
+	for _, mode := range []string{withEscapes, withoutEscapes} {
+		db := open(t, map[string]string{"sql_mode": mode}, true)
+		asked := session(t, db)
+		for turn := 0; turn < 60; turn++ {
+			values, found := make([]any, count), make([]any, count)
+			for i := range values {
+				text := ""
+				for length := source.Intn(12); length > 0; length-- {
+					text += pieces[source.Intn(len(pieces))]
+				}
+				values[i], found[i] = text, new(string)
+			}
+			rows, err := mysqlparams.QueryContext(context.Background(), db, query, values...)
+			if turn%2 == 1 {
+				check(t, rows.Close())
+				rows, err = asked.QueryContext(context.Background(), query, values...)
+			}
+			check(t, err)
+			rows.Next()
+			check(t, rows.Scan(found...))
+			check(t, rows.Close())
+			for i, value := range values {
+				if wanted := fmt.Sprintf("%X", value); *found[i].(*string) != wanted {
+					t.Errorf("%s: %q is %s", mode, value, *found[i].(*string))
+				}
+			}
 		}
 	}
 }
