@@ -152,15 +152,22 @@ func (w *writer) bytes(bytes []byte) {
 	w.text(*(*string)(unsafe.Pointer(&bytes))) // It is read at once.
 }
 
-// double writes a float64, which the archive refuses if it is no finite number.
+// finite has a finite number be bound by the calls for fragments. Another is refused by each call.
+func (w *writer) finite(number float64) {
+	if !math.IsNaN(number) && !math.IsInf(number, 0) {
+		w.fragments = true
+	}
+}
+
+// double writes a float64.
 func (w *writer) double(number float64) {
-	w.fragments = true
+	w.finite(number)
 	w.form = binary.LittleEndian.AppendUint64(append(w.form, typeDouble, 0), math.Float64bits(number))
 }
 
-// float writes a float32 so.
+// float writes a float32.
 func (w *writer) float(number float32) {
-	w.fragments = true
+	w.finite(float64(number))
 	w.form = binary.LittleEndian.AppendUint32(append(w.form, typeFloat, 0), math.Float32bits(number))
 }
 

@@ -113,7 +113,7 @@ func TestOtherArchive(t *testing.T) {
 			tell(0, 0)
 			var found *BindError
 			if !errors.As(err, &found) || found.Code != CodeArchive ||
-				!strings.HasPrefix(err.Error(), "not the archive of this package: ") {
+				!strings.Contains(err.Error(), "not the archive of this package: ") {
 				t.Errorf("%s: %v: %v", name, told, err)
 			}
 		}
