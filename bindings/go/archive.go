@@ -30,8 +30,12 @@ const (
 	callTemplate
 )
 
-// keptRoom is how long a form and a text may be for their memory to be used again.
-const keptRoom = 1 << 16
+// keptRoom is how long a text may be for its memory to be used again, and keptForm so of a form. Go's collector
+// takes such memory back that isn't used for a while.
+const (
+	keptRoom = 1 << 16
+	keptForm = 1 << 22
+)
 
 // room is what a call needs in memory. It is used again and again.
 type room struct {
@@ -114,9 +118,19 @@ func (r *room) have(wanted int) {
 	}
 }
 
+// guess returns how long a text may get. A literal of bytes has at most twice their number, and a short value up
+// to three times as many as its form; where that would be much memory to clear, the second is rare.
+func (r *room) guess(q *question) int {
+	length := len(r.writer.form)
+	if length > keptRoom {
+		return len(q.query) + 2*length
+	}
+	return len(q.query) + 3*length + 64
+}
+
 // answer returns the text for the form of the room, or the refusal.
 func (r *room) answer(q *question) (string, error) {
-	r.have(len(q.query) + 3*len(r.writer.form) + 64)
+	r.have(r.guess(q))
 	number := r.ask(q)
 	if number == C.MYSQL_PARAMS_ROOM {
 		r.have(int(r.report.len))

@@ -110,9 +110,13 @@ func (w *writer) list(slice any, at level) error {
 	w.fragments = true
 	if rows, ok := slice.([][]any); ok {
 		w.beginRows(len(rows))
-		for _, row := range rows {
+		begin := len(w.form)
+		for i, row := range rows {
 			if err := w.anyItems(row); err != nil {
 				return err
+			}
+			if i == 0 {
+				w.haveMore((len(w.form) - begin) * len(rows))
 			}
 		}
 		return nil
@@ -126,6 +130,18 @@ func (w *writer) list(slice any, at level) error {
 	}
 	w.form = append(w.form, typeList, 0)
 	return w.items(slice)
+}
+
+// haveMore has memory for so many bytes, and an eighth more, so that a form isn't copied as it grows. It is a guess,
+// so that it has no more than what is kept.
+func (w *writer) haveMore(count int) {
+	wanted := len(w.form) + count + count/8
+	if wanted > keptForm {
+		wanted = keptForm
+	}
+	if wanted > cap(w.form) {
+		w.form = append(make([]byte, 0, wanted), w.form...)
+	}
 }
 
 // beginRows begins so many rows.

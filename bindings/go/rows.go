@@ -55,16 +55,15 @@ type batch struct {
 	waiting  int // rows that wait
 }
 
-// longestHead is how long the length before a form may be, for which bytes are left.
+// longestHead is how long the length before a form may be.
 const longestHead = 9
 
 // add has a row wait, and binds those that wait if they are many.
 func (b *batch) add(number int, row []any) error {
 	w := &b.room.writer
 	begin := len(w.form)
-	var head [longestHead]byte
 	w.fragments = false
-	w.form = append(w.form, head[:]...)
+	w.form = append(w.form, 0)
 	err := w.arguments(row)
 	if err == nil && !w.fragments {
 		w.enclose(begin)
@@ -74,7 +73,7 @@ func (b *batch) add(number int, row []any) error {
 		}
 		return b.flush()
 	}
-	alone := append([]byte(nil), w.form[begin+longestHead:]...)
+	alone := append([]byte(nil), w.form[begin+1:]...)
 	fragments := w.fragments
 	w.form = w.form[:begin]
 	w.fragments = false
@@ -102,15 +101,19 @@ func inRow(err error, number int) error {
 	return err
 }
 
-// enclose puts the length of a form before it, which begins behind bytes that are left for that.
+// enclose puts the length of a form before it, which begins behind a byte that is left for that.
 func (w *writer) enclose(begin int) {
-	length := len(w.form) - begin - longestHead
-	form := w.form
-	w.form = w.form[:begin]
-	w.length(length)
-	count := len(w.form)
-	copy(form[count:], form[begin+longestHead:])
-	w.form = form[:count+length]
+	length := len(w.form) - begin - 1
+	if length < 251 {
+		w.form[begin] = byte(length)
+		return
+	}
+	head := writer{form: make([]byte, 0, longestHead)}
+	head.length(length)
+	more := len(head.form) - 1
+	w.form = append(w.form, head.form[:more]...)
+	copy(w.form[begin+1+more:], w.form[begin+1:begin+1+length])
+	copy(w.form[begin:], head.form)
 }
 
 // flush binds the rows that wait.

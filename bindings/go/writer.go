@@ -37,7 +37,7 @@ func (w *writer) begin(location *time.Location, single bool) {
 // end drops what the writer shouldn't keep.
 func (w *writer) end() {
 	w.name, w.location = "", nil
-	if cap(w.form) > keptRoom {
+	if cap(w.form) > keptForm {
 		w.form = nil
 	}
 }
