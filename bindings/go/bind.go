@@ -12,8 +12,9 @@ type Binder struct {
 // BindAnywhere returns the query with literals that depend on no connection: no sql_mode and no character set
 // reads the text otherwise, on MySQL or MariaDB. Nothing has to be asked before it is sent.
 //
-// The query has to be ASCII without a backslash, also in its comments, and portable. A text is written as
-// `_utf8mb4'it”s'` or `_utf8mb4 0xC3A9`.
+// The query has to be ASCII without a backslash, also in its comments, and portable. Texts are written so:
+//
+//	SELECT _utf8mb4'it''s', _utf8mb4 0xC3A9
 func BindAnywhere(query string, args ...any) (string, error) {
 	return Binder{}.BindAnywhere(query, args...)
 }
