@@ -1,0 +1,339 @@
+<?php
+
+/**
+ * What the extension mysql_params has, for IDEs and for tools that read types. It is not loaded by a program.
+ *
+ * Parameters are a list, for `?`, or have names, for `:name`. A value is null, a bool, an int, a float, a string, a
+ * DateTimeInterface, a DateInterval of a known length, or a case of an enum with values. Where a place takes more, it is also a
+ * list of values, a list of lists as rows, a Decimal, an Identifier or a Keyword. Anything else is a TypeError, which tells the
+ * place.
+ *
+ * `$no_backslash_escape` says whether the connection's `@@sql_mode` has NO_BACKSLASH_ESCAPES. It is true or false: anything
+ * else is a TypeError.
+ */
+
+namespace MysqlParams;
+
+/**
+ * Returns the query with literals in its places that no sql_mode and no character set of a connection reads otherwise.
+ *
+ * The query is ASCII without a backslash, and portable.
+ *
+ * @param array<mixed> $params
+ * @throws BindException for a query or parameters that are refused
+ * @throws \TypeError|\ValueError for a value that has no literal
+ */
+function bind_anywhere(string $query, array $params = []): string
+{
+}
+
+/**
+ * Returns the query with literals in its places for a connection of this mode, over utf8mb4.
+ *
+ * Ask first_unportable of the query before.
+ *
+ * @param array<mixed> $params
+ * @throws BindException for a query or parameters that are refused
+ * @throws \TypeError|\ValueError for a value that has no literal
+ */
+function bind(string $query, array $params = [], bool $no_backslash_escape = false): string
+{
+}
+
+/**
+ * Returns the text of bind_anywhere for a query that may have bytes from 128 on, over utf8mb4. Each place takes one value, and no
+ * float.
+ *
+ * @param array<mixed> $params
+ * @throws BindException for a query or parameters that are refused
+ * @throws \TypeError|\ValueError for a value that has no literal
+ */
+function bind_in_both_modes(string $query, array $params = []): string
+{
+}
+
+/**
+ * Returns the text of each row: what bind returns for the query and the row's parameters. Each place takes one value.
+ *
+ * The query is parsed once for many rows. The BindException of a row tells its number, and the texts of the rows before it.
+ *
+ * @param iterable<array<mixed>> $rows
+ * @return list<string>
+ * @throws BindException for the first row that is refused
+ * @throws \TypeError|\ValueError for a value that has no literal
+ */
+function bind_rows(string $query, iterable $rows, bool $no_backslash_escape = false): array
+{
+}
+
+/**
+ * Returns what bind returns for parameters that stand in their flat form already, which mysql_params.h describes.
+ *
+ * @throws BindException
+ */
+function bind_form(string $query, string $form, bool $no_backslash_escape = false): string
+{
+}
+
+/**
+ * Returns what bind_anywhere returns for parameters in their flat form.
+ *
+ * @throws BindException
+ */
+function bind_form_anywhere(string $query, string $form): string
+{
+}
+
+/**
+ * Returns what bind_in_both_modes returns for parameters in their flat form.
+ *
+ * @throws BindException
+ */
+function bind_form_in_both_modes(string $query, string $form): string
+{
+}
+
+/**
+ * Returns the names of a query, and the query with `?` in their places.
+ *
+ * @throws BindException for a query with names and marks
+ */
+function names(string $query, bool $no_backslash_escape = false): Names
+{
+}
+
+/**
+ * Returns the first construct of a query that servers read in different ways, or null if there is none.
+ */
+function first_unportable(string $query, bool $no_backslash_escape = false): ?Unportable
+{
+}
+
+/**
+ * Returns the same for a query whose bound text goes through the client `mysql --comments`.
+ */
+function first_unportable_in_client(string $query, bool $no_backslash_escape = false): ?Unportable
+{
+}
+
+/**
+ * Binds a query, sends the text by `PDO::query` or `mysqli::query`, and returns what that returns.
+ *
+ * The connection's mode, character sets and max_allowed_packet are asked for before the first text, and kept. The query is
+ * portable.
+ *
+ * @param array<mixed> $params
+ * @throws BindException also for a connection that isn't utf8mb4, and for a text that is too long
+ * @throws \TypeError|\ValueError for a value that has no literal
+ */
+function query(\PDO|\mysqli $connection, string $query, array $params = [], bool $always_ask = false): \PDOStatement|\mysqli_result|bool
+{
+}
+
+/**
+ * Binds a query, sends the text by `PDO::exec` or `mysqli::query`, and returns how many rows it changed.
+ *
+ * All else is as by query. A number of rows that no int has is a string, as mysqli gives it.
+ *
+ * @param array<mixed> $params
+ * @throws BindException also for a connection that isn't utf8mb4, and for a text that is too long
+ * @throws \TypeError|\ValueError for a value that has no literal
+ */
+function execute(\PDO|\mysqli $connection, string $query, array $params = [], bool $always_ask = false): int|string|false
+{
+}
+
+/**
+ * Has the connection be asked anew before its next text. Call it after a `SET` of sql_mode or of a character set.
+ */
+function ask_again(\PDO|\mysqli $connection): void
+{
+}
+
+/** A query whose places are found once, to bind it many times: it gives what bind gives. */
+final class Template
+{
+    public readonly string $query;
+    public readonly bool $noBackslashEscape;
+
+    public function __construct(string $query, bool $noBackslashEscape = false)
+    {
+    }
+
+    /**
+     * @param array<mixed> $params
+     * @throws BindException
+     */
+    public function bind(array $params = []): string
+    {
+    }
+
+    /** @throws BindException */
+    public function bindForm(string $form): string
+    {
+    }
+
+    /**
+     * @param iterable<array<mixed>> $rows
+     * @return list<string>
+     * @throws BindException
+     */
+    public function bindRows(iterable $rows): array
+    {
+    }
+}
+
+/** An exact number: at most one `-`, then at most 65 digits with at most one point between them, as `-1.50`. */
+final class Decimal implements \Stringable
+{
+    public readonly string $digits;
+
+    public function __construct(string|int $digits)
+    {
+    }
+
+    public function __toString(): string
+    {
+    }
+}
+
+/** The name of a table or a column, which may come from outside; `new Identifier('shop', 'item')` is one in another. */
+final class Identifier
+{
+    /** @var list<string> */
+    public readonly array $parts;
+
+    public function __construct(string ...$parts)
+    {
+    }
+}
+
+/** A keyword of the program, as `DESC`, chosen among those that it names: else a ValueError. */
+final class Keyword
+{
+    public readonly string $word;
+
+    /** @param array<string> $among */
+    public function __construct(string $word, array $among)
+    {
+    }
+}
+
+/** The names of a query. */
+final class Names
+{
+    /** The query with `?` in the place of each name. */
+    public readonly string $query;
+    /** @var list<string> the names without their colons, in order, with repeats */
+    public readonly array $names;
+
+    private function __construct()
+    {
+    }
+}
+
+/** A construct that servers read in different ways. */
+final class Unportable
+{
+    public readonly Construct $construct;
+    /** The byte of the query at which it begins. */
+    public readonly int $position;
+
+    private function __construct()
+    {
+    }
+}
+
+/** The constructs, with their numbers in C. */
+enum Construct: int
+{
+    case ExecutableComment = 1;
+    case Hint = 2;
+    case MariadbComment = 3;
+    case Dashes = 4;
+    case EscapedQuote = 5;
+    case Bracket = 6;
+    case DollarQuote = 7;
+    case DashesAfterExponent = 8;
+    case PlaceAfterExponent = 9;
+    case OpenerInComment = 10;
+    case JoiningComment = 11;
+    case DashesBeforeComment = 12;
+    case ClientCommand = 13;
+    case DashInFront = 14;
+    case Delimiter = 15;
+    case ClientWord = 16;
+    case EscapedNewline = 17;
+    case ZeroByte = 18;
+    case EscapedBackquote = 19;
+    case ReturnInComment = 20;
+
+    /** What to write instead. */
+    public function message(): string
+    {
+    }
+}
+
+/** What is wrong with a list, rows, an exact number, an identifier or a keyword. */
+enum Fault: int
+{
+    case Empty = 1;
+    case EmptyRow = 2;
+    case RowLength = 3;
+    case Number = 4;
+    case EmptyName = 5;
+    case ZeroByte = 6;
+    case LongName = 7;
+    case TrailingSpace = 8;
+    case Keyword = 9;
+    case Backslash = 10;
+}
+
+/** A refusal. Its code is that of C, or SESSION or PACKET. A field that it doesn't tell is null. */
+class BindException extends \RuntimeException
+{
+    const FORM_END = 3;
+    const FORM_LENGTH_LEAD = 4;
+    const FORM_TYPE = 5;
+    const FORM_MIXED = 6;
+    const FORM_REPEATED = 7;
+    const MIXED = 8;
+    const MISSING = 9;
+    const NAMED_FOR_POSITIONAL = 10;
+    const POSITIONAL_FOR_NAMED = 11;
+    const MARK_COUNT = 12;
+    const NOT_ALONE = 13;
+    const FLOAT = 14;
+    const UNSTEADY = 15;
+    const UNPORTABLE = 16;
+    const FAULT = 17;
+    const BACKSLASH = 18;
+    const UNSTEADY_FRAGMENT = 19;
+    /** The connection isn't utf8mb4, or gives no answer. */
+    const SESSION = -1;
+    /** The text is longer than max_allowed_packet. */
+    const PACKET = -2;
+
+    /** The number of the place in the query, or of the parameter in the form, from 0. */
+    public ?int $place = null;
+    /** The byte of the query, or of the form, from 0. */
+    public ?int $position = null;
+    /** How many marks the query has. */
+    public ?int $marks = null;
+    /** How many values were given. */
+    public ?int $values = null;
+    /** The byte that is wrong in the form. */
+    public ?int $byte = null;
+    /** The number of the row, from 0: of bind_rows, or within the rows of a place. */
+    public ?int $row = null;
+    /** The number of the item in the row or the list, or of the name in an Identifier. */
+    public ?int $item = null;
+    /** The name that is missing or repeated, that of the place of a value, or the variable of the session. */
+    public ?string $name = null;
+    /** The word of the query that has a letter outside ASCII after a colon. */
+    public ?string $word = null;
+    /** @var ?list<string> of bind_rows: the texts of the rows before it */
+    public ?array $texts = null;
+    public ?Construct $construct = null;
+    public ?Fault $fault = null;
+}

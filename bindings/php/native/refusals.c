@@ -1,0 +1,291 @@
+/* refusals.c: the exception, and what a query has that servers read in different ways. */
+#include "php_mysql_params.h"
+
+#include "Zend/zend_enum.h"
+#include "Zend/zend_exceptions.h"
+#include "Zend/zend_smart_str.h"
+#include "ext/spl/spl_exceptions.h"
+
+zend_class_entry *exception_ce, *construct_ce, *fault_ce, *unportable_ce;
+
+static const uint8_t nothing;
+
+/* The length of a message that needs no other room. */
+enum { USUAL_MESSAGE = 256 };
+
+zend_object *new_refusal(zend_long code, const char *format, ...)
+{
+    zval refusal, value;
+    va_list words;
+    va_start(words, format);
+    zend_string *message = zend_vstrpprintf(0, format, words);
+    va_end(words);
+    object_init_ex(&refusal, exception_ce);
+    ZVAL_STR(&value, message);
+    zend_update_property_ex(zend_ce_exception, Z_OBJ(refusal), ZSTR_KNOWN(ZEND_STR_MESSAGE), &value);
+    zend_string_release(message);
+    ZVAL_LONG(&value, code);
+    zend_update_property_ex(zend_ce_exception, Z_OBJ(refusal), ZSTR_KNOWN(ZEND_STR_CODE), &value);
+    return Z_OBJ(refusal);
+}
+
+/* Throws a refusal, of which this takes the only reference. */
+static void throw(zend_object *refusal)
+{
+    zval thrown;
+    ZVAL_OBJ(&thrown, refusal);
+    zend_throw_exception_object(&thrown);
+}
+
+static void set_long(zend_object *refusal, const char *name, size_t number)
+{
+    zend_update_property_long(exception_ce, refusal, name, strlen(name), (zend_long)number);
+}
+
+static void set_bytes(zend_object *refusal, const char *name, const uint8_t *bytes, size_t len)
+{
+    zend_update_property_stringl(exception_ce, refusal, name, strlen(name), (const char *)bytes, len);
+}
+
+/* Sets a field to the case of an enum that has a number, if it has one. */
+static void set_case(zend_object *refusal, const char *name, zend_class_entry *kind, size_t number)
+{
+    zend_object *found;
+    zval value;
+    if (zend_enum_get_case_by_value(&found, kind, (zend_long)number, NULL, true) != SUCCESS || found == NULL)
+        return;
+    ZVAL_OBJ(&value, found);
+    zend_update_property(exception_ce, refusal, name, strlen(name), &value);
+}
+
+/* The name of a number in the query, without its colon; null if the query has no names. */
+static zend_string *name_of_place(const question *asked, size_t place)
+{
+    const question of_names = {.call = CALL_NAMES, .query = asked->query, .form = {&nothing, 0},
+                               .mode = asked->call == CALL_BIND && asked->mode};
+    zend_string *found = answer(&of_names), *name = NULL;
+    if (found == NULL)
+        return NULL;
+    const uint8_t *at = (const uint8_t *)ZSTR_VAL(found);
+    size_t len = ZSTR_LEN(found), number = 0;
+    mysql_params_string string;
+    while (mysql_params_next_string(&at, &len, &string)) {
+        if (number++ == place + 1) {
+            name = zend_string_init((const char *)string.bytes, string.len, 0);
+            break;
+        }
+    }
+    zend_string_release(found);
+    return name;
+}
+
+static bool is_of_names(uint8_t byte)
+{
+    return (byte >= 'a' && byte <= 'z') || (byte >= 'A' && byte <= 'Z') || (byte >= '0' && byte <= '9') || byte == '_';
+}
+
+/* Sets the word that begins at a byte of the query, if a letter outside ASCII is in it. */
+static void set_word(zend_object *refusal, bytes query, size_t begin)
+{
+    size_t end = begin;
+    bool has_other = false;
+    while (end < query.len && (is_of_names(query.at[end]) || query.at[end] >= 128))
+        has_other |= query.at[end++] >= 128;
+    if (has_other)
+        set_bytes(refusal, "word", query.at + begin, end - begin);
+}
+
+/* Sets the first word after a colon that begins with a letter outside ASCII. */
+static void set_word_without_name(zend_object *refusal, bytes query)
+{
+    for (size_t at = 1; at < query.len; at++) {
+        if (query.at[at - 1] == ':' && query.at[at] >= 128) {
+            set_word(refusal, query, at);
+            return;
+        }
+    }
+}
+
+/* Sets the name that a report tells, which stands in the query or in the form. */
+static void set_told_name(zend_object *refusal, bytes source, const mysql_params_report *report)
+{
+    if (report->position <= source.len && report->len <= source.len - report->position)
+        set_bytes(refusal, "name", source.at + report->position, report->len);
+}
+
+/* Sets the name of a place, if it has one. */
+static void set_name_of_place(zend_object *refusal, const question *question, size_t place)
+{
+    zend_string *name = name_of_place(question, place);
+    if (name == NULL)
+        return;
+    set_bytes(refusal, "name", (const uint8_t *)ZSTR_VAL(name), ZSTR_LEN(name));
+    zend_string_release(name);
+}
+
+/* Sets what a refusal of a form tells. */
+static void set_form_fields(zend_object *refusal, const question *question, int32_t number,
+                            const mysql_params_report *report)
+{
+    set_long(refusal, "place", report->place);
+    set_long(refusal, "position", report->position);
+    if (number == MYSQL_PARAMS_FORM_REPEATED)
+        set_told_name(refusal, question->form, report);
+    if (number == MYSQL_PARAMS_FORM_LENGTH_LEAD || number == MYSQL_PARAMS_FORM_TYPE)
+        set_long(refusal, "byte", report->byte);
+}
+
+/* Sets what a refusal of a list, rows, an exact number, a name or a keyword tells. */
+static void set_fault_fields(zend_object *refusal, const question *question, const mysql_params_report *report)
+{
+    set_long(refusal, "place", report->place);
+    set_case(refusal, "fault", fault_ce, report->byte);
+    set_long(refusal, "row", report->position);
+    set_long(refusal, "item", report->values);
+    set_name_of_place(refusal, question, report->place);
+}
+
+/* Sets what a refusal of a place of the query tells, which could run into its neighbour or has no value. */
+static void set_place_fields(zend_object *refusal, const question *question, int32_t number,
+                             const mysql_params_report *report)
+{
+    size_t at = report->position;
+    set_long(refusal, "place", report->place);
+    set_long(refusal, "position", at);
+    if (number == MYSQL_PARAMS_MISSING) {
+        set_told_name(refusal, question->query, report);
+        set_word(refusal, question->query, at);
+    } else if (at < question->query.len && question->query.at[at] == ':') {
+        set_word(refusal, question->query, at + 1);
+    }
+}
+
+/* Sets what a refusal tells beside its message. */
+static void set_fields(zend_object *refusal, const question *question, int32_t number, const mysql_params_report *report)
+{
+    switch (number) {
+    case MYSQL_PARAMS_FORM_END:
+    case MYSQL_PARAMS_FORM_LENGTH_LEAD:
+    case MYSQL_PARAMS_FORM_TYPE:
+    case MYSQL_PARAMS_FORM_MIXED:
+    case MYSQL_PARAMS_FORM_REPEATED:
+        set_form_fields(refusal, question, number, report);
+        return;
+    case MYSQL_PARAMS_MISSING:
+    case MYSQL_PARAMS_NOT_ALONE:
+        set_place_fields(refusal, question, number, report);
+        return;
+    case MYSQL_PARAMS_NAMED_FOR_POSITIONAL:
+        set_word_without_name(refusal, question->query);
+        return;
+    case MYSQL_PARAMS_MARK_COUNT:
+        set_long(refusal, "marks", report->marks);
+        set_long(refusal, "values", report->values);
+        return;
+    case MYSQL_PARAMS_FLOAT:
+    case MYSQL_PARAMS_UNSTEADY_FRAGMENT:
+        set_long(refusal, "place", report->place);
+        set_name_of_place(refusal, question, report->place);
+        return;
+    case MYSQL_PARAMS_UNPORTABLE:
+        set_case(refusal, "construct", construct_ce, report->byte);
+        set_long(refusal, "position", report->position);
+        return;
+    case MYSQL_PARAMS_UNSTEADY:
+    case MYSQL_PARAMS_BACKSLASH:
+        set_long(refusal, "position", report->position);
+        return;
+    case MYSQL_PARAMS_FAULT:
+        set_fault_fields(refusal, question, report);
+    }
+}
+
+/* The message of a number, by the function of C. */
+static zend_string *message_of(const question *question, int32_t number, const mysql_params_report *report)
+{
+    char usual[USUAL_MESSAGE];
+    bytes source = number == MYSQL_PARAMS_FORM_REPEATED ? question->form : question->query;
+    size_t len = mysql_params_message_wide(number, report, source.at, source.len, usual, sizeof usual);
+    if (len < sizeof usual)
+        return zend_string_init(usual, len, 0);
+    zend_string *message = zend_string_alloc(len, 0);
+    mysql_params_message_wide(number, report, source.at, source.len, ZSTR_VAL(message), len + 1);
+    return message;
+}
+
+void refuse(const question *question, int32_t number, const mysql_params_report *report, zend_long row)
+{
+    if (number == MYSQL_PARAMS_OUT_OF_MEMORY)
+        refuse_memory();
+    if (number < MYSQL_PARAMS_FORM_END || number > MYSQL_PARAMS_UNSTEADY_FRAGMENT) {
+        zend_throw_error(NULL, "Unknown answer %d of the archive", (int)number);
+        return;
+    }
+    zend_string *message = message_of(question, number, report);
+    zend_object *refusal = row < 0 ? new_refusal(number, "%s", ZSTR_VAL(message))
+                                   : new_refusal(number, "row " ZEND_LONG_FMT ": %s", row, ZSTR_VAL(message));
+    zend_string_release(message);
+    set_fields(refusal, question, number, report);
+    if (row >= 0)
+        set_long(refusal, "row", (size_t)row);
+    throw(refusal);
+}
+
+/* The calls that find the first construct of a query. */
+typedef int32_t first_call(const uint8_t *, size_t, bool, mysql_params_report *);
+
+/* The number of a query's first construct; it ends the request if there is no memory. */
+static int32_t first_of(first_call *call, bytes query, bool mode, mysql_params_report *report)
+{
+    int32_t construct = call(query.at, query.len, mode, report);
+    if (construct == MYSQL_PARAMS_NO_MEMORY)
+        refuse_memory();
+    return construct;
+}
+
+bool refuse_unportable(bytes query, bool mode)
+{
+    mysql_params_report report = {0};
+    int32_t construct = first_of(mysql_params_first_unportable_wide, query, mode, &report);
+    if (construct == MYSQL_PARAMS_PORTABLE)
+        return false;
+    const question question = {.call = CALL_BIND, .query = query, .form = {&nothing, 0}, .mode = mode};
+    report.byte = (size_t)construct;
+    refuse(&question, MYSQL_PARAMS_UNPORTABLE, &report, -1);
+    return true;
+}
+
+/* Returns an Unportable, or null. */
+static void find(INTERNAL_FUNCTION_PARAMETERS, first_call *call)
+{
+    zend_string *query;
+    zval *given = NULL;
+    bool mode;
+    mysql_params_report report = {0};
+    zend_object *construct;
+    ZEND_PARSE_PARAMETERS_START(1, 2)
+        Z_PARAM_STR(query)
+        Z_PARAM_OPTIONAL
+        Z_PARAM_ZVAL(given)
+    ZEND_PARSE_PARAMETERS_END();
+    if (!take_mode(given, 2, &mode))
+        RETURN_THROWS();
+    int32_t number = first_of(call, bytes_of(query), mode, &report);
+    if (number == MYSQL_PARAMS_PORTABLE)
+        RETURN_NULL();
+    if (zend_enum_get_case_by_value(&construct, construct_ce, number, NULL, false) != SUCCESS)
+        RETURN_THROWS();
+    object_init_ex(return_value, unportable_ce);
+    ZVAL_OBJ_COPY(OBJ_PROP_NUM(Z_OBJ_P(return_value), 0), construct);
+    ZVAL_LONG(OBJ_PROP_NUM(Z_OBJ_P(return_value), 1), (zend_long)report.position);
+}
+
+PHP_FUNCTION(MysqlParams_first_unportable)
+{
+    find(INTERNAL_FUNCTION_PARAM_PASSTHRU, mysql_params_first_unportable_wide);
+}
+
+PHP_FUNCTION(MysqlParams_first_unportable_in_client)
+{
+    find(INTERNAL_FUNCTION_PARAM_PASSTHRU, mysql_params_first_unportable_in_client_wide);
+}

@@ -1,0 +1,464 @@
+/* sending.c: bound texts sent by PDO and mysqli. */
+#include "php_mysql_params.h"
+
+#include "Zend/zend_exceptions.h"
+#include "Zend/zend_interfaces.h"
+#include "Zend/zend_weakrefs.h"
+
+/* What is asked of a connection. */
+static const char question_text[] =
+    "SELECT @@sql_mode, @@character_set_client, @@character_set_connection, @@max_allowed_packet";
+
+/* PDO's constants. */
+enum { PDO_ATTR_DRIVER_NAME = 16, PDO_ATTR_EMULATE_PREPARES = 20, PDO_FETCH_NUM = 3 };
+
+/* How much shorter a text has to be than max_allowed_packet says: the packet has a byte before it, and is shorter. */
+enum { BESIDE_TEXT = 4 };
+
+enum driver { DRIVER_PDO, DRIVER_MYSQLI };
+
+typedef struct connection {
+    enum driver driver;
+    zend_object *object;
+} connection;
+
+/* A driver's own idea of the mode, and what changes if it connects anew. Nothing is sent to know it. */
+typedef struct signs {
+    bool mode;
+    zend_long thread;  /* mysqli's number of the connection; 0 of PDO, whose object is one connection */
+    zend_string *charset; /* owned; mysqli's character set; null of PDO */
+} signs;
+
+/* What a connection answered. */
+typedef struct told {
+    bool mode; /* without backslash escapes */
+    size_t most; /* how long a text may be */
+    bool is_kept; /* whether it holds as long as the signs stay: never once the driver had another idea of the mode */
+    bool is_asked_again; /* whether ask_again wants it anew */
+    signs signs;
+} told;
+
+static void signs_free(signs *signs)
+{
+    if (signs->charset != NULL)
+        zend_string_release(signs->charset);
+    signs->charset = NULL;
+}
+
+static void told_free(zval *kept)
+{
+    told *gone = Z_PTR_P(kept);
+    signs_free(&gone->signs);
+    efree(gone);
+}
+
+void sending_begin(void)
+{
+    zend_hash_init(&MYSQL_PARAMS_G(told), 0, NULL, told_free, 0);
+}
+
+void sending_end(void)
+{
+    zend_ulong key;
+    HashTable *all = &MYSQL_PARAMS_G(told);
+    ZEND_HASH_FOREACH_NUM_KEY(all, key) {
+        zend_weakrefs_hash_del(all, zend_weakref_key_to_object(key));
+    } ZEND_HASH_FOREACH_END();
+    zend_hash_destroy(all);
+}
+
+/* Calls a method of an object with up to two arguments. Returns false with an exception thrown. */
+static bool call(zend_object *object, const char *name, zval *returned, zval *first, zval *second)
+{
+    uint32_t count = (first != NULL) + (second != NULL);
+    ZVAL_UNDEF(returned);
+    zend_call_method(object, object->ce, NULL, name, strlen(name), returned, count, first, second);
+    if (EG(exception) == NULL)
+        return true;
+    zval_ptr_dtor(returned);
+    ZVAL_UNDEF(returned);
+    return false;
+}
+
+/* Whether an object is of a class, which is looked up by its name in lower case: a driver may not be loaded. */
+static bool is_a(const zend_object *object, const char *name)
+{
+    const zend_class_entry *kind = zend_hash_str_find_ptr(EG(class_table), name, strlen(name));
+    return kind != NULL && instanceof_function(object->ce, kind);
+}
+
+/* Whether a PDO is of MySQL. */
+static bool is_of_mysql(zend_object *pdo)
+{
+    zval attribute, name;
+    ZVAL_LONG(&attribute, PDO_ATTR_DRIVER_NAME);
+    if (!call(pdo, "getAttribute", &name, &attribute, NULL))
+        return false;
+    bool is = Z_TYPE(name) == IS_STRING && zend_string_equals_literal(Z_STR(name), "mysql");
+    if (!is)
+        zend_argument_type_error(1, "must be a PDO of the driver mysql");
+    zval_ptr_dtor(&name);
+    return is;
+}
+
+/* Takes a connection that was handed in. */
+static bool take_connection(zval *given, connection *connection)
+{
+    connection->object = Z_TYPE_P(given) == IS_OBJECT ? Z_OBJ_P(given) : NULL;
+    if (connection->object != NULL && is_a(connection->object, "pdo")) {
+        connection->driver = DRIVER_PDO;
+        return is_of_mysql(connection->object);
+    }
+    connection->driver = DRIVER_MYSQLI;
+    if (connection->object != NULL && is_a(connection->object, "mysqli"))
+        return true;
+    zend_argument_type_error(1, "must be of type PDO|mysqli, %s given", zend_zval_type_name(given));
+    return false;
+}
+
+/* Whether the driver escapes a backslash by nothing: its own idea of the mode, by what the server said last. */
+static bool mode_of_driver(const connection *connection, bool *mode)
+{
+    bool is_pdo = connection->driver == DRIVER_PDO;
+    zval backslash, escaped;
+    ZVAL_STRINGL(&backslash, "\\", 1);
+    bool is_known = call(connection->object, is_pdo ? "quote" : "real_escape_string", &escaped, &backslash, NULL);
+    zval_ptr_dtor(&backslash);
+    if (!is_known)
+        return false;
+    size_t backslashes = 0;
+    for (size_t i = 0; Z_TYPE(escaped) == IS_STRING && i < Z_STRLEN(escaped); i++)
+        backslashes += Z_STRVAL(escaped)[i] == '\\';
+    *mode = backslashes == 1;
+    zval_ptr_dtor(&escaped);
+    return true;
+}
+
+/* Asks the driver, and not the server. */
+static bool signs_of(const connection *connection, signs *signs)
+{
+    zval charset, held, *thread;
+    signs->thread = 0;
+    signs->charset = NULL;
+    if (!mode_of_driver(connection, &signs->mode))
+        return false;
+    if (connection->driver == DRIVER_PDO)
+        return true;
+    thread = zend_read_property(connection->object->ce, connection->object, "thread_id", sizeof "thread_id" - 1, 1,
+                                &held);
+    if (EG(exception) != NULL)
+        return false;
+    signs->thread = zval_get_long(thread);
+    if (!call(connection->object, "character_set_name", &charset, NULL, NULL))
+        return false;
+    signs->charset = zval_get_string(&charset);
+    zval_ptr_dtor(&charset);
+    return true;
+}
+
+static bool are_equal(const signs *a, const signs *b)
+{
+    bool have = a->charset != NULL && b->charset != NULL;
+    return a->mode == b->mode && a->thread == b->thread &&
+           (have ? zend_string_equals(a->charset, b->charset) : a->charset == b->charset);
+}
+
+/* Throws a refusal of the connection, of which this takes the only reference. */
+static bool throw_session(zend_object *refusal, const char *variable)
+{
+    zval thrown;
+    if (variable != NULL)
+        zend_update_property_string(exception_ce, refusal, "name", sizeof "name" - 1, variable);
+    ZVAL_OBJ(&thrown, refusal);
+    zend_throw_exception_object(&thrown);
+    return false;
+}
+
+/* Refuses a connection that answers nothing, as one whose driver says errors by false. */
+static bool refuse_silence(void)
+{
+    return throw_session(new_refusal(REFUSED_SESSION, "The connection gave no answer to %s", question_text), NULL);
+}
+
+/* Refuses a character set other than utf8mb4. */
+static bool judge_charset(const char *variable, zval *cell)
+{
+    zend_string *value = zval_get_string(cell);
+    bool is_right = zend_string_equals_literal(value, "utf8mb4");
+    if (!is_right)
+        throw_session(new_refusal(REFUSED_SESSION,
+                                  "The connection's %s is %s, and has to be utf8mb4: connect with charset=utf8mb4",
+                                  variable, ZSTR_VAL(value)),
+                      variable);
+    zend_string_release(value);
+    return is_right;
+}
+
+/* Whether a word stands in a list with commas, in letters of any case. */
+static bool has_word(const zend_string *list, const char *word)
+{
+    size_t len = strlen(word);
+    const char *at = ZSTR_VAL(list), *end = at + ZSTR_LEN(list);
+    while (at < end) {
+        const char *comma = memchr(at, ',', (size_t)(end - at));
+        size_t part = (size_t)((comma == NULL ? end : comma) - at);
+        if (part == len && zend_binary_strcasecmp(at, part, word, len) == 0)
+            return true;
+        at += part + 1;
+    }
+    return false;
+}
+
+/* Takes the cells of the answer. */
+static bool take_answer(HashTable *row, told *told)
+{
+    zval *cells[4];
+    for (zend_ulong i = 0; i < 4; i++) {
+        cells[i] = zend_hash_index_find(row, i);
+        if (cells[i] == NULL)
+            return refuse_silence();
+    }
+    if (!judge_charset("character_set_client", cells[1]) || !judge_charset("character_set_connection", cells[2]))
+        return false;
+    zend_string *sql_mode = zval_get_string(cells[0]);
+    told->mode = has_word(sql_mode, "NO_BACKSLASH_ESCAPES");
+    zend_string_release(sql_mode);
+    told->most = (size_t)zval_get_long(cells[3]) - BESIDE_TEXT;
+    return true;
+}
+
+/* Sets PDO's attribute for prepared statements. An exception that was thrown stays. */
+static void set_emulates(zend_object *pdo, bool emulates)
+{
+    zval attribute, value, returned;
+    zend_object *held = EG(exception);
+    if (held != NULL) {
+        GC_ADDREF(held);
+        zend_clear_exception();
+    }
+    ZVAL_LONG(&attribute, PDO_ATTR_EMULATE_PREPARES);
+    ZVAL_BOOL(&value, emulates);
+    call(pdo, "setAttribute", &returned, &attribute, &value);
+    zval_ptr_dtor(&returned);
+    if (held != NULL && EG(exception) == NULL)
+        zend_throw_exception_internal(held);
+    else if (held != NULL)
+        OBJ_RELEASE(held);
+}
+
+/* Sends a text by PDO's query. Without emulation it would look for places in the text, and have the server prepare it: so
+ * that is on meanwhile, and then the text goes out as it is. */
+static bool query_by_pdo(zend_object *pdo, zval *text, zval *returned)
+{
+    zval attribute, emulates;
+    ZVAL_LONG(&attribute, PDO_ATTR_EMULATE_PREPARES);
+    if (!call(pdo, "getAttribute", &emulates, &attribute, NULL))
+        return false;
+    bool is_on = zend_is_true(&emulates);
+    zval_ptr_dtor(&emulates);
+    if (!is_on)
+        set_emulates(pdo, true);
+    bool is_sent = EG(exception) == NULL && call(pdo, "query", returned, text, NULL);
+    if (!is_on)
+        set_emulates(pdo, false);
+    return is_sent && EG(exception) == NULL;
+}
+
+/* Sends a text, and returns what the driver's query returns. */
+static bool send_query(const connection *connection, zval *text, zval *returned)
+{
+    ZVAL_UNDEF(returned);
+    if (connection->driver == DRIVER_PDO)
+        return query_by_pdo(connection->object, text, returned);
+    return call(connection->object, "query", returned, text, NULL);
+}
+
+/* Takes the first row of a result, and lets go of the result. */
+static bool take_row(const connection *connection, zval *result, told *told)
+{
+    bool is_pdo = connection->driver == DRIVER_PDO;
+    zval row, mode, returned;
+    ZVAL_LONG(&mode, PDO_FETCH_NUM);
+    if (!call(Z_OBJ_P(result), is_pdo ? "fetch" : "fetch_row", &row, is_pdo ? &mode : NULL, NULL))
+        return false;
+    bool is_taken = call(Z_OBJ_P(result), is_pdo ? "closeCursor" : "free", &returned, NULL, NULL);
+    zval_ptr_dtor(&returned);
+    if (is_taken)
+        is_taken = Z_TYPE(row) == IS_ARRAY ? take_answer(Z_ARRVAL(row), told) : refuse_silence();
+    zval_ptr_dtor(&row);
+    return is_taken;
+}
+
+/* Asks a connection. */
+static bool ask_connection(const connection *connection, told *told)
+{
+    zval text, result;
+    ZVAL_STRINGL(&text, question_text, sizeof question_text - 1);
+    bool is_asked = send_query(connection, &text, &result);
+    zval_ptr_dtor(&text);
+    if (is_asked)
+        is_asked = Z_TYPE(result) == IS_OBJECT ? take_row(connection, &result, told) : refuse_silence();
+    zval_ptr_dtor(&result);
+    return is_asked;
+}
+
+/* What is kept of a connection, or null. */
+static told *kept_of(const connection *connection)
+{
+    return zend_hash_index_find_ptr(&MYSQL_PARAMS_G(told), zend_object_to_weakref_key(connection->object));
+}
+
+/* Keeps what a connection answered, with the signs that the driver has then. */
+static bool keep(const connection *connection, told *told)
+{
+    if (!signs_of(connection, &told->signs))
+        return false;
+    struct told *kept = kept_of(connection);
+    told->is_kept = told->signs.mode == told->mode && (kept == NULL || kept->is_kept);
+    told->is_asked_again = false;
+    if (kept == NULL) {
+        kept = ecalloc(1, sizeof *kept);
+        zend_weakrefs_hash_add_ptr(&MYSQL_PARAMS_G(told), connection->object, kept);
+    }
+    signs_free(&kept->signs);
+    *kept = *told;
+    return true;
+}
+
+/* What a connection answered, now or before. */
+static bool told_by(const connection *connection, bool always_ask, told *told)
+{
+    const struct told *kept = kept_of(connection);
+    signs now;
+    if (!always_ask && kept != NULL && kept->is_kept && !kept->is_asked_again) {
+        if (!signs_of(connection, &now)) {
+            signs_free(&now);
+            return false;
+        }
+        bool holds = are_equal(&now, &kept->signs);
+        signs_free(&now);
+        if (holds) {
+            *told = *kept;
+            return true;
+        }
+    }
+    return ask_connection(connection, told) && keep(connection, told);
+}
+
+/* The text to send over a connection, for a query that is portable in its mode. */
+static zend_string *text_for(const connection *connection, question *question, bool always_ask)
+{
+    told told;
+    if (!told_by(connection, always_ask, &told))
+        return NULL;
+    question->mode = told.mode;
+    if (refuse_unportable(question->query, told.mode))
+        return NULL;
+    zend_string *text = answer(question);
+    if (text == NULL || ZSTR_LEN(text) <= told.most)
+        return text;
+    throw_session(new_refusal(REFUSED_PACKET,
+                              "The text has %zu bytes, and the connection's max_allowed_packet lets %zu through",
+                              ZSTR_LEN(text), told.most),
+                  NULL);
+    zend_string_release(text);
+    return NULL;
+}
+
+/* What a call that sends takes. */
+typedef struct sending {
+    connection connection;
+    zend_string *query;
+    HashTable *params; /* or null */
+    bool always_ask;
+} sending;
+
+static bool take_sending(INTERNAL_FUNCTION_PARAMETERS, sending *sending)
+{
+    zval *given;
+    (void)return_value;
+    sending->params = NULL;
+    sending->always_ask = false;
+    ZEND_PARSE_PARAMETERS_START_EX(ZEND_PARSE_PARAMS_THROW, 2, 4)
+        Z_PARAM_ZVAL(given)
+        Z_PARAM_STR(sending->query)
+        Z_PARAM_OPTIONAL
+        Z_PARAM_ARRAY_HT(sending->params)
+        Z_PARAM_BOOL(sending->always_ask)
+    ZEND_PARSE_PARAMETERS_END_EX(return false);
+    return take_connection(given, &sending->connection);
+}
+
+/* The text that a call sends. The parameters are written before the connection is asked. */
+static bool text_of(const sending *sending, zval *text)
+{
+    form form;
+    zend_string *made = NULL;
+    form_begin(&form);
+    writer writer = {&form, LEVEL_PLACES, NULL, 0, -1};
+    if (sending->params == NULL || write_params(&writer, sending->params)) {
+        question question = {.call = CALL_BIND, .query = bytes_of(sending->query), .form = {form.bytes, form.len},
+                             .values = form.values, .is_fragments = form.is_fragments};
+        made = text_for(&sending->connection, &question, sending->always_ask);
+    }
+    form_free(&form);
+    if (made != NULL)
+        ZVAL_STR(text, made);
+    return made != NULL;
+}
+
+PHP_FUNCTION(MysqlParams_query)
+{
+    sending sending;
+    zval text;
+    if (!take_sending(INTERNAL_FUNCTION_PARAM_PASSTHRU, &sending) || !text_of(&sending, &text))
+        RETURN_THROWS();
+    bool is_sent = send_query(&sending.connection, &text, return_value);
+    zval_ptr_dtor(&text);
+    if (!is_sent)
+        RETURN_THROWS();
+}
+
+/* Returns how many rows a text of mysqli changed, after its result, if it has one, was let go of. */
+static void return_changed(zend_object *mysqli, zval *result, zval *return_value)
+{
+    zval returned, held;
+    if (Z_TYPE_P(result) == IS_OBJECT && call(Z_OBJ_P(result), "free", &returned, NULL, NULL))
+        zval_ptr_dtor(&returned);
+    if (Z_TYPE_P(result) == IS_FALSE)
+        RETURN_FALSE;
+    zval *changed = zend_read_property(mysqli->ce, mysqli, "affected_rows", sizeof "affected_rows" - 1, 1, &held);
+    RETURN_COPY(changed);
+}
+
+PHP_FUNCTION(MysqlParams_execute)
+{
+    sending sending;
+    zval text, result;
+    if (!take_sending(INTERNAL_FUNCTION_PARAM_PASSTHRU, &sending) || !text_of(&sending, &text))
+        RETURN_THROWS();
+    bool is_pdo = sending.connection.driver == DRIVER_PDO;
+    zend_object *object = sending.connection.object;
+    bool is_sent = call(object, is_pdo ? "exec" : "query", is_pdo ? return_value : &result, &text, NULL);
+    zval_ptr_dtor(&text);
+    if (!is_sent)
+        RETURN_THROWS();
+    if (is_pdo)
+        return;
+    return_changed(object, &result, return_value);
+    zval_ptr_dtor(&result);
+}
+
+PHP_FUNCTION(MysqlParams_ask_again)
+{
+    zval *given;
+    connection connection;
+    ZEND_PARSE_PARAMETERS_START(1, 1)
+        Z_PARAM_ZVAL(given)
+    ZEND_PARSE_PARAMETERS_END();
+    if (!take_connection(given, &connection))
+        RETURN_THROWS();
+    told *kept = kept_of(&connection);
+    if (kept != NULL)
+        kept->is_asked_again = true;
+}

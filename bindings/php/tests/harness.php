@@ -1,0 +1,83 @@
+<?php
+
+/**
+ * What the tests of the extension share. A test prints `test NAME ... ok` or `test NAME ... FAILED`; the status is 1 if one
+ * failed, or if there was none.
+ */
+
+namespace MysqlParams\Tests;
+
+const CASES = __DIR__ . '/../../cases';
+
+/** The tests that ran, and those that failed. */
+final class Tests
+{
+    public static int $ran = 0;
+    public static int $failed = 0;
+}
+
+/** Runs a test. */
+function test(string $name, callable $body): void
+{
+    Tests::$ran++;
+    try {
+        $body();
+        echo "test $name ... ok\n";
+    } catch (\Throwable $fault) {
+        Tests::$failed++;
+        echo 'fault: ', get_class($fault), ': ', $fault->getMessage(), "\n", $fault->getTraceAsString(), "\n";
+        echo "test $name ... FAILED\n";
+    }
+}
+
+/** Throws unless both are the same, of one type. */
+function same(mixed $wanted, mixed $found, string $of = ''): void
+{
+    if ($wanted !== $found) {
+        throw new \Exception("$of: wanted " . var_export($wanted, true) . ', found ' . var_export($found, true));
+    }
+}
+
+/** Throws unless it is true. */
+function holds(bool $truth, string $of = ''): void
+{
+    same(true, $truth, $of);
+}
+
+/** Returns what a call throws. */
+function thrown(callable $call): \Throwable
+{
+    try {
+        $returned = $call();
+    } catch (\Throwable $fault) {
+        return $fault;
+    }
+    throw new \Exception('nothing was thrown, and it returned ' . var_export($returned, true));
+}
+
+/** Throws unless a call throws just this. */
+function refused(string $kind, string $message, callable $call): \Throwable
+{
+    $fault = thrown($call);
+    same($kind, get_class($fault), $fault->getMessage());
+    same($message, $fault->getMessage());
+    return $fault;
+}
+
+/** Returns the fields of a refusal that aren't null, in the order of their names. */
+function fields(\MysqlParams\BindException $refusal): array
+{
+    $fields = [];
+    foreach (['byte', 'construct', 'fault', 'item', 'marks', 'name', 'place', 'position', 'row', 'texts', 'values', 'word'] as $field) {
+        if ($refusal->$field !== null) {
+            $fields[$field] = $refusal->$field;
+        }
+    }
+    return $fields;
+}
+
+/** Ends the program of tests. */
+function finish(): never
+{
+    exit(Tests::$ran > 0 && Tests::$failed === 0 ? 0 : 1);
+}
