@@ -347,6 +347,7 @@ static zend_class_entry *register_enum(const char *name, const zend_function_ent
                                        size_t count)
 {
     zend_class_entry *kind = zend_register_internal_enum(name, IS_LONG, methods);
+    kind->ce_flags |= ZEND_ACC_FINAL;
     for (size_t i = 0; i < count; i++) {
         zval number;
         ZVAL_LONG(&number, cases[i].number);

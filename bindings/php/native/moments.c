@@ -46,21 +46,13 @@ bool write_date(const writer *writer, zend_object *value)
     return true;
 }
 
-/* Adds `count` times `unit` to a sum. Returns whether that can be counted. */
-static bool add(int64_t *sum, int64_t count, int64_t unit)
-{
-    int64_t product;
-    return !__builtin_mul_overflow(count, unit, &product) && !__builtin_add_overflow(*sum, product, sum);
-}
-
-/* Adds up an interval that has a length, in microseconds less than zero or not. Returns whether that can be counted. */
-static bool microseconds_of(const timelib_rel_time *interval, int64_t *sum)
+/* An interval that has a length, in microseconds, less than zero or not: five products of 64 and 37 bits fit. */
+static __int128 microseconds_of(const timelib_rel_time *interval)
 {
     bool has_days = interval->days != TIMELIB_UNSET;
-    *sum = 0;
-    return add(sum, has_days ? interval->days : interval->d, (int64_t)SECONDS_OF_DAY * MICROSECONDS) &&
-           add(sum, interval->h, (int64_t)3600 * MICROSECONDS) && add(sum, interval->i, (int64_t)60 * MICROSECONDS) &&
-           add(sum, interval->s, MICROSECONDS) && add(sum, interval->us, 1);
+    __int128 seconds = (__int128)(has_days ? interval->days : interval->d) * SECONDS_OF_DAY;
+    seconds += (__int128)interval->h * 3600 + (__int128)interval->i * 60 + interval->s;
+    return seconds * MICROSECONDS + interval->us;
 }
 
 /* Whether it is known how long an interval is: it has neither years nor months, or the days between two dates. */
@@ -72,9 +64,9 @@ static bool has_length(const timelib_rel_time *interval)
 }
 
 /* Appends a span by its sign and its magnitude. */
-static void append_span(form *form, bool is_negative, uint64_t microseconds)
+static void append_span(form *form, bool is_negative, unsigned __int128 microseconds)
 {
-    uint64_t seconds = microseconds / MICROSECONDS;
+    uint64_t seconds = (uint64_t)(microseconds / MICROSECONDS);
     uint8_t *at = form_more(form, FORM_OF_TIME);
     at[0] = TYPE_TIME;
     at[1] = 0;
@@ -84,21 +76,20 @@ static void append_span(form *form, bool is_negative, uint64_t microseconds)
     at[8] = (uint8_t)(seconds % SECONDS_OF_DAY / 3600);
     at[9] = (uint8_t)(seconds / 60 % 60);
     at[10] = (uint8_t)(seconds % 60);
-    fill_number(at + 11, 4, microseconds % MICROSECONDS);
+    fill_number(at + 11, 4, (uint64_t)(microseconds % MICROSECONDS));
 }
 
 bool write_interval(const writer *writer, zend_object *value)
 {
     const php_interval_obj *object = php_interval_obj_from_obj(value);
-    int64_t sum;
     if (!object->initialized || object->diff == NULL)
         return refuse_empty(value);
     if (!has_length(object->diff))
         return refuse_value(writer, zend_ce_value_error,
                             "is a DateInterval with years, months or weekdays, whose length isn't known: give days");
-    bool is_counted = microseconds_of(object->diff, &sum);
-    uint64_t size = sum < 0 ? 0 - (uint64_t)sum : (uint64_t)sum;
-    if (!is_counted || size / MICROSECONDS / SECONDS_OF_DAY > MOST_DAYS)
+    __int128 sum = microseconds_of(object->diff);
+    unsigned __int128 size = sum < 0 ? -sum : sum;
+    if (size / MICROSECONDS / SECONDS_OF_DAY > MOST_DAYS)
         return refuse_value(writer, zend_ce_value_error, "is a DateInterval of more than 999999999 days");
     append_span(writer->form, object->diff->invert ? sum > 0 : sum < 0, size);
     return true;

@@ -1,0 +1,99 @@
+<?php
+
+/**
+ * Calls what the extension has again and again: PHP's memory must not grow. TIMES (1000) says how often; under valgrind, with
+ * PHP's memory of malloc, nothing may be left or be read wrongly.
+ */
+
+namespace MysqlParams\Tests;
+
+use MysqlParams\{BindException, Decimal, Identifier, Keyword, Template};
+
+use function MysqlParams\{bind, bind_anywhere, bind_form, bind_in_both_modes, bind_rows, first_unportable, first_unportable_in_client, names};
+
+require __DIR__ . '/harness.php';
+
+enum Color: string
+{
+    case Red = 'red';
+}
+
+/** Calls, of which each may throw. */
+function calls(): array
+{
+    $long = str_repeat("it's \u{e9} ", 20000);
+    $rows = array_map(fn ($number) => [$number, "it's $number", null, 0.5], range(1, 300));
+    $moment = new \DateTimeImmutable('2019-11-27 12:30:00.5');
+    $span = new \DateInterval('PT90M');
+    $template = new Template('SELECT :a, :b');
+    return [
+        'values' => fn () => bind('SELECT ?, ?, ?, ?, ?, ?, ?, ?', [null, true, 5, "it's", 0.5, $moment, $span, Color::Red]),
+        'anywhere' => fn () => bind_anywhere('SELECT :a, :b', ['a' => "\u{e9}", ':b' => [1, 'x', new Decimal('1.5')]]),
+        'both modes' => fn () => bind_in_both_modes("SELECT '\u{e9}', ?", ["\u{e9}"]),
+        'long text' => fn () => bind('SELECT ?, ?', [$long, $long]),
+        'rows of a place' => fn () => bind('INSERT INTO ? VALUES ?', [new Identifier('shop', 't'), $rows]),
+        'keyword' => fn () => bind('ORDER BY ? ?', [new Identifier('a'), new Keyword('DESC', ['ASC', 'DESC'])]),
+        'form' => fn () => bind_form('SELECT ?', "\0\x06\0"),
+        'rows' => fn () => bind_rows('VALUES (?, ?, ?, ?)', $rows),
+        'rows of a generator' => fn () => bind_rows('VALUES (?)', (fn () => yield from array_fill(0, 300, ['x']))()),
+        'template' => fn () => $template->bind(['a' => 1, 'b' => $long]),
+        'rows of a template' => fn () => $template->bindRows([['a' => 1, 'b' => 2], ['a' => 0.5, 'b' => 2]]),
+        'new template' => fn () => new Template('SELECT :a, ?'),
+        'names' => fn () => names('SELECT :a, :userId'),
+        'constructs' => fn () => [first_unportable('SELECT /*! :A */'), first_unportable('SELECT 1'), first_unportable_in_client("use x")],
+        'missing' => fn () => bind("SELECT :a\u{e9}", ['b' => 1]),
+        'mixed' => fn () => names('SELECT :a, ?'),
+        'repeated' => fn () => bind('SELECT :a', ['a' => 1, ':a' => $long]),
+        'float' => fn () => bind('SELECT :a, :b', ['a' => NAN, 'b' => $long]),
+        'fault' => fn () => bind('SELECT :a', ['a' => [[1, 2], [3]]]),
+        'unportable' => fn () => bind_anywhere('SELECT /*! :a */', ['a' => 1]),
+        'unsteady' => fn () => bind_anywhere('SELECT ?', [new Identifier("\u{e9}")]),
+        'object' => fn () => bind('SELECT :a, :b', ['b' => $long, 'a' => new \stdClass()]),
+        'nested' => fn () => bind('SELECT ?', [[$long, [1]]]),
+        'keys' => fn () => bind('SELECT ?', [1 => $long]),
+        'empty name' => fn () => bind('SELECT ?', ['b' => $long, '' => 1]),
+        'year' => fn () => bind('SELECT ?', [$long, new \DateTime('0000-00-00')]),
+        'month' => fn () => bind('SELECT ?', [$long, new \DateInterval('P1M')]),
+        'mode' => fn () => bind('SELECT 1', [], 'x'),
+        'refused row' => fn () => bind_rows('SELECT ?', [[1], [1, 2], [3]]),
+        'refused type of a row' => fn () => bind_rows('SELECT ?', [[1], [$long, new \stdClass()]]),
+        'refused row before a type' => fn () => bind_rows('SELECT ?', [[1], [1, 2], [new \stdClass()]]),
+        'refused float of a row' => fn () => bind_rows('SELECT ?', [[$long], [0.5], [INF]]),
+        'exception of an iterator' => fn () => bind_rows('SELECT ?', (function () {
+            yield ['x'];
+            throw new \DomainException('mine');
+        })()),
+        'refused row before an exception' => fn () => bind_rows('SELECT ?', (function () {
+            yield [1, 2];
+            throw new \DomainException('mine');
+        })()),
+        'refused identifier' => fn () => new Identifier('a', 5),
+        'refused keyword' => fn () => new Keyword('x', ['ASC']),
+        'second constructor' => fn () => $template->__construct('SELECT 1'),
+    ];
+}
+
+/** Calls so often, and returns how much PHP's memory grew. */
+function growth(callable $call, int $times): int
+{
+    $before = memory_get_usage();
+    for ($i = 0; $i < $times; $i++) {
+        try {
+            $call();
+        } catch (BindException | \DomainException | \TypeError | \ValueError | \Error) {
+        }
+    }
+    gc_collect_cycles();
+    return memory_get_usage() - $before;
+}
+
+$times = (int) (getenv('TIMES') ?: 1000);
+foreach (calls() as $name => $call) {
+    test("memory of $name", function () use ($call, $times) {
+        growth($call, 10);
+        $grown = growth($call, $times);
+        holds($grown < 1024, "it grew by $grown bytes");
+    });
+}
+
+finish();
