@@ -252,6 +252,7 @@ test('lists and rows that cannot be written', function () {
     $cycle = [1];
     $cycle[] = &$cycle;
     refused(\TypeError::class, 'the value for place 0 has rows and values: give a list of values, or one of rows alone', fn () => bind('?', [$cycle]));
+    $cycle = null;
 });
 
 test('identifiers', function () {
