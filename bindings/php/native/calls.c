@@ -3,8 +3,8 @@
 
 #include "Zend/zend_exceptions.h"
 
-/* How much longer than query and form a room is at first; and how much a value has beside twice its form, as a comma, a space
- * and `_utf8mb4 0x`, or the digits of a double. */
+/* How much longer than query and form a room is at first; and how much a value has beside twice its form, as a comma, a
+ * space and `_utf8mb4 0x`, or the digits of a double. */
 enum { MORE_ROOM = 64, BESIDE_VALUE = 12 };
 
 /* Where no bytes are, since the archive takes no null. */

@@ -3,8 +3,8 @@
  * It writes parameters as the flat form, calls the archive, and hands its answers out. It is tested, not proved.
  *
  * Memory and exceptions:
- * - A form and a text are of PHP's own memory. If that has none, PHP ends the request by its own error, and gives all of it
- *   back. Nothing here is of `malloc` except a template, which its object gives back.
+ * - A form and a text are of PHP's own memory. If that has none, PHP ends the request by its own error, and gives all of
+ *   it back. Nothing here is of `malloc` except a template, which its object gives back.
  * - A zval and a string that is handed in is borrowed: its caller holds it until the call returns.
  * - A function that returns bool returns false with an exception thrown, unless its comment says otherwise.
  * - While parameters are written no code of a user runs. While rows are iterated over it may.

@@ -161,7 +161,8 @@ static void set_place_fields(zend_object *refusal, const question *question, int
 }
 
 /* Sets what a refusal tells beside its message. */
-static void set_fields(zend_object *refusal, const question *question, int32_t number, const mysql_params_report *report)
+static void set_fields(zend_object *refusal, const question *question, int32_t number,
+                       const mysql_params_report *report)
 {
     switch (number) {
     case MYSQL_PARAMS_FORM_END:

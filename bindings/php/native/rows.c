@@ -4,8 +4,8 @@
 #include "Zend/zend_exceptions.h"
 #include "ext/spl/spl_iterators.h"
 
-/* Once the forms of rows have so many bytes, or their queries, the rows are bound. The forms are few enough to stay in a
- * processor's cache with their texts. */
+/* Once the forms of rows have so many bytes, or their queries, the rows are bound. The forms are few enough to stay in
+ * a processor's cache with their texts. */
 enum { MOST_FORMS = 1 << 15, MOST_QUERIES = 1 << 18 };
 
 /* What a text has beside its query and its literals: its length. */

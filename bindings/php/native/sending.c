@@ -246,8 +246,8 @@ static void set_emulates(zend_object *pdo, bool emulates)
         OBJ_RELEASE(held);
 }
 
-/* Sends a text by PDO's query. Without emulation it would look for places in the text, and have the server prepare it: so
- * that is on meanwhile, and then the text goes out as it is. */
+/* Sends a text by PDO's query. Without emulation it would look for places in the text, and have the server prepare it.
+ * So that is on meanwhile, and then the text goes out as it is. */
 static bool query_by_pdo(zend_object *pdo, zval *text, zval *returned)
 {
     zval attribute, emulates;

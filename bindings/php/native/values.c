@@ -9,7 +9,8 @@
 
 #include <math.h>
 
-/* Appends a name as messages show it: without its colon, and a byte that isn't printable ASCII, `"` or `\` as `\x` and digits. */
+/* Appends a name as messages show it: without its colon, and a byte that isn't printable ASCII, `"` or `\` as `\x` and
+ * two digits. */
 static void append_shown(smart_str *to, const zend_string *name)
 {
     size_t begin = ZSTR_LEN(name) > 0 && ZSTR_VAL(name)[0] == ':';
@@ -105,7 +106,8 @@ static bool write_rows(const writer *writer, HashTable *rows)
         ZVAL_DEREF(row);
         if (!zend_array_is_list(Z_ARRVAL_P(row)))
             return refuse_value(writer, zend_ce_type_error,
-                                "has keys in row " ZEND_LONG_FMT ", and a row is a list: give array_values(..) of it", number);
+                                "has keys in row " ZEND_LONG_FMT ", and a row is a list: give array_values(..) of it",
+                                number);
         if (!write_items(writer, Z_ARRVAL_P(row)))
             return false;
         number++;
@@ -228,7 +230,8 @@ static bool write_fragment(const writer *writer, zend_object *object)
 static bool write_case(const writer *writer, zend_object *object)
 {
     if (object->ce->enum_backing_type == IS_UNDEF)
-        return refuse_value(writer, zend_ce_type_error, "is a case of the enum %s, which has no value: give one a value",
+        return refuse_value(writer, zend_ce_type_error,
+                            "is a case of the enum %s, which has no value: give one a value",
                             ZSTR_VAL(object->ce->name));
     return write_value(writer, zend_enum_fetch_case_value(object));
 }
@@ -310,7 +313,8 @@ static bool write_in_order(writer *writer, HashTable *params)
 /* Throws for parameters that are neither in order nor all by name. */
 static bool refuse_keys(const writer *writer)
 {
-    const char *wanted = "parameters are a list or have names, and these have other keys: give array_values(..) of them";
+    const char *wanted =
+        "parameters are a list or have names, and these have other keys: give array_values(..) of them";
     if (writer->row < 0)
         zend_type_error("%s", wanted);
     else
