@@ -1,0 +1,3 @@
+export * from './index.js'
+import * as mysqlParams from './index.js'
+export default mysqlParams

@@ -1,0 +1,189 @@
+/// <reference types="node" />
+
+// Values bound into SQL queries for MySQL and MariaDB. README.md is the page of the package.
+
+/** An exact number of its digits, as `new Decimal('9.99')`: it is written bare, so that a server computes it exactly. */
+export class Decimal {
+  constructor(digits: string | bigint)
+  readonly digits: string
+  toString(): string
+}
+
+/** A number that is written as a DOUBLE, also if it is whole: `new Double(2)` is `2.0e0`. */
+export class Double {
+  constructor(number: number)
+  readonly number: number
+}
+
+/** The name of a table or a column, and before it that of what it is in: `new Identifier('db', 't')`. */
+export class Identifier {
+  constructor(first: string, ...others: string[])
+  readonly parts: readonly string[]
+}
+
+/** The keywords that are written. */
+export const KEYWORDS: readonly string[]
+
+/** One of the keywords that stand in your program, chosen at run time: `new Keyword(order, ['ASC', 'DESC'])`. */
+export class Keyword {
+  constructor(word: string, among: readonly string[])
+  readonly word: string
+}
+
+/** One value. A finite number that isn't whole is a DOUBLE; a `bigint` beyond 64 bits is an exact number. */
+export type Value = null | boolean | number | bigint | string | Uint8Array | Date | Double
+
+/** What may stand in a list or a row. */
+export type Item = Value | Decimal
+
+/** What may stand in a place: also a list, as for `IN (?)`, rows, as for `VALUES ?`, a name and a keyword. */
+export type Fragment = Item | readonly Item[] | ReadonlyArray<readonly Item[]> | Identifier | Keyword
+
+/** Values in order, or by name. */
+export type Params<V = Fragment> = null | undefined | readonly V[] | { readonly [name: string]: V } | ReadonlyMap<string, V>
+
+export interface QueryOptions {
+  /** Whether `SELECT @@sql_mode`, asked on the connection, has NO_BACKSLASH_ESCAPES. */
+  noBackslashEscape?: boolean
+}
+
+export interface ZoneOptions {
+  /** The clock by which a `Date` is written: 'Z', 'local', or an offset as '+02:00'. Without it a `Date` is refused. */
+  timezone?: string
+}
+
+export interface BindOptions extends QueryOptions, ZoneOptions {}
+
+/** The name of a refusal in mysql_params.h, or SESSION or PACKET of the calls that send. */
+export type Kind =
+  | 'FORM_END'
+  | 'FORM_LENGTH_LEAD'
+  | 'FORM_TYPE'
+  | 'FORM_MIXED'
+  | 'FORM_REPEATED'
+  | 'MIXED'
+  | 'MISSING'
+  | 'NAMED_FOR_POSITIONAL'
+  | 'POSITIONAL_FOR_NAMED'
+  | 'MARK_COUNT'
+  | 'NOT_ALONE'
+  | 'FLOAT'
+  | 'UNSTEADY'
+  | 'UNPORTABLE'
+  | 'FAULT'
+  | 'BACKSLASH'
+  | 'UNSTEADY_FRAGMENT'
+  | 'SESSION'
+  | 'PACKET'
+
+/** A refusal. Numbers of places, parameters and bytes begin at 0. A field that the kind doesn't tell is undefined. */
+export class BindError extends Error {
+  /** The number in mysql_params.h; undefined of SESSION and PACKET. */
+  readonly code?: number
+  readonly kind: Kind
+  /** The place in the query; of a form the parameter. */
+  readonly place?: number
+  /** The byte of the query, or of the form. */
+  readonly position?: number
+  /** The name of the place, or the name that is missing or repeated. */
+  readonly placeName?: string
+  /** The whole word, if a letter outside ASCII stands after a name or in its place, as in `:größe`. */
+  readonly word?: string
+  readonly marks?: number
+  readonly values?: number
+  readonly byte?: number
+  /** What servers read in different ways, by its name in mysql_params.h. */
+  readonly construct?: string
+  /** What is wrong with a fragment, by its name in mysql_params.h. */
+  readonly fault?: string
+  readonly inRow?: number
+  readonly item?: number
+  /** Of bindRows: the number of the row, and the texts of the rows before it. */
+  readonly row?: number
+  readonly texts?: string[] | Buffer[]
+  /** Of PACKET: the bytes of the text, and how many the connection takes. */
+  readonly length?: number
+  readonly most?: number
+}
+
+/** The connection isn't one that a text is for. */
+export class SessionError extends BindError {
+  readonly variable: string
+  readonly value: string
+}
+
+/** The text for a connection with backslash escapes, or without them by an option. Of a query of bytes it is a Buffer. */
+export function bind(query: string, params?: Params, options?: BindOptions): string
+export function bind(query: Uint8Array, params?: Params, options?: BindOptions): Buffer
+
+/** The text for any connection, in ASCII. The query has to be ASCII without a backslash, and portable. */
+export function bindAnywhere(query: string, params?: Params, options?: ZoneOptions): string
+export function bindAnywhere(query: Uint8Array, params?: Params, options?: ZoneOptions): Buffer
+
+/** The same for a query with letters outside ASCII, over utf8mb4. Each place takes one value, which is no float. */
+export function bindInBothModes(query: string, params?: Params<Value>, options?: ZoneOptions): string
+export function bindInBothModes(query: Uint8Array, params?: Params<Value>, options?: ZoneOptions): Buffer
+
+/** Binds parameters that stand in their flat form already, as mysql_params.h describes it. */
+export function bindForm(query: string, form: Uint8Array, options?: QueryOptions): string
+export function bindForm(query: Uint8Array, form: Uint8Array, options?: QueryOptions): Buffer
+export function bindFormAnywhere(query: string, form: Uint8Array): string
+export function bindFormAnywhere(query: Uint8Array, form: Uint8Array): Buffer
+export function bindFormInBothModes(query: string, form: Uint8Array): string
+export function bindFormInBothModes(query: Uint8Array, form: Uint8Array): Buffer
+
+/** The text of each row: what bind gives for the query and the row's parameters. */
+export function bindRows(query: string, rows: Iterable<Params>, options?: BindOptions): string[]
+export function bindRows(query: Uint8Array, rows: Iterable<Params>, options?: BindOptions): Buffer[]
+
+/** A query whose names and marks are found once, to bind it many times: it gives what bind gives. */
+export class Template<Q extends string | Uint8Array = string> {
+  constructor(query: Q, options?: QueryOptions)
+  readonly query: Q extends string ? string : Buffer
+  readonly noBackslashEscape: boolean
+  bind(params?: Params, options?: ZoneOptions): Q extends string ? string : Buffer
+  bindForm(form: Uint8Array): Q extends string ? string : Buffer
+  bindRows(rows: Iterable<Params>, options?: ZoneOptions): Array<Q extends string ? string : Buffer>
+}
+
+/** The names of a query, in order, with repeats, and the query with `?` in the place of each. */
+export function names(query: string, options?: QueryOptions): { query: string; names: string[] }
+export function names(query: Uint8Array, options?: QueryOptions): { query: Buffer; names: string[] }
+
+/** What servers, or a client, read in different ways: its name and number in mysql_params.h, where it begins, what to write. */
+export interface Unportable {
+  construct: string
+  number: number
+  position: number
+  message: string
+}
+
+/** The first construct of a query that servers read in different ways; null if it is portable. */
+export function firstUnportable(query: string | Uint8Array, options?: QueryOptions): Unportable | null
+
+/** The same for servers, or for the client `mysql` or `mariadb` through which the text goes. */
+export function firstUnportableInClient(query: string | Uint8Array, options?: QueryOptions): Unportable | null
+
+/** A connection or a pool of `mysql` or `mysql2`, with callbacks or promises. */
+export interface Sender {
+  query(...given: any[]): any
+}
+
+export interface SendOptions extends ZoneOptions {
+  /** Whether the connection is asked before this text too, as over a proxy that has several servers. */
+  alwaysAsk?: boolean
+}
+
+/** Binds a query in the mode of a connection, and sends the text. It resolves to the driver's results and fields. */
+export function query(
+  connection: Sender,
+  query: string,
+  params?: Params,
+  options?: SendOptions
+): Promise<[results: any, fields: any]>
+
+/** The same, which resolves to the results alone: of a statement without rows `affectedRows`, `insertId` and so on. */
+export function execute(connection: Sender, query: string, params?: Params, options?: SendOptions): Promise<any>
+
+/** Has a connection asked anew before its next text, after a `SET` of sql_mode or of a character set. */
+export function askAgain(connection: Sender): void

@@ -1,0 +1,28 @@
+// The same package for `import`: both ways of loading have one copy of its classes.
+import mysqlParams from './index.js'
+
+export const {
+  BindError,
+  Decimal,
+  Double,
+  Identifier,
+  KEYWORDS,
+  Keyword,
+  SessionError,
+  Template,
+  askAgain,
+  bind,
+  bindAnywhere,
+  bindForm,
+  bindFormAnywhere,
+  bindFormInBothModes,
+  bindInBothModes,
+  bindRows,
+  execute,
+  firstUnportable,
+  firstUnportableInClient,
+  names,
+  query
+} = mysqlParams
+
+export default mysqlParams

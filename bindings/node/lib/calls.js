@@ -1,0 +1,182 @@
+'use strict'
+// The calls that bind, and what is asked of a query.
+
+const { isUint8Array } = require('node:util/types')
+const { ANYWHERE, BIND, BOTH_MODES, BYTES, CHECKED, FRAGMENTS, IN_CLIENT, MODE, native } = require('./native.js')
+const { CONSTRUCTS, refusalOf } = require('./errors.js')
+const { giveForm, isWellFormed, takeForm, writeParams } = require('./form.js')
+const dates = require('./dates.js')
+
+/** The bit of a call that says what its query is. */
+function kindOf(query) {
+  if (typeof query === 'string') return 0
+  if (isUint8Array(query)) return BYTES
+  const kind = query === null ? 'null' : typeof query
+  throw new TypeError(`a query is a string or a Uint8Array, and not ${kind === 'object' ? 'an object' : kind}`)
+}
+
+/** Throws for options that a call doesn't have: one that is misspelt would be another mode without a word. */
+function judgeOptions(options, known) {
+  if (typeof options !== 'object' || options === null || Array.isArray(options)) {
+    throw new TypeError(`options are an object, as { ${known[0]}: .. }, and not ${options === null ? 'null' : typeof options}`)
+  }
+  for (const name of Object.keys(options)) {
+    if (!known.includes(name)) throw new TypeError(`there is no option ${JSON.stringify(name)}: the options are ${known.join(', ')}`)
+  }
+}
+
+/** The bit of the mode that options say. */
+function modeOf(options) {
+  const mode = options.noBackslashEscape
+  if (mode === undefined || mode === false) return 0
+  if (mode === true) return MODE
+  throw new TypeError('noBackslashEscape is true or false: whether @@sql_mode has NO_BACKSLASH_ESCAPES')
+}
+
+/** Throws for a query with a lone surrogate. */
+function judgeQuery(query) {
+  if (!isWellFormed(query)) throw new TypeError('the query has a lone surrogate, which has no UTF-8')
+}
+
+/** Asks the addon, by a function of the flags, and again if the query was to be looked at; throws what it refuses. */
+function asked(ask, flags, query) {
+  let told = ask(flags)
+  if (told === undefined) {
+    judgeQuery(query)
+    told = ask(flags | CHECKED)
+  }
+  if (Array.isArray(told) && typeof told[0] === 'number') throw refusalOf(told, query, flags)
+  return told
+}
+
+/** The text of a query and a form that is written. */
+function textOf(flags, query, form) {
+  const all = form.isFragments ? flags | FRAGMENTS : flags
+  const { buffer } = form.bytes
+  const told = native.bind(all, query, buffer, 0, form.len)
+  if (typeof told === 'string' || isUint8Array(told)) return told
+  return asked((more) => (more === all ? told : native.bind(more, query, buffer, 0, form.len)), all, query)
+}
+
+function bound(flags, query, params, zone) {
+  const form = takeForm(zone, (flags & 3) !== BOTH_MODES)
+  try {
+    writeParams(form, params)
+    return textOf(flags, query, form)
+  } finally {
+    giveForm(form)
+  }
+}
+
+const OF_MODE = ['noBackslashEscape', 'timezone']
+const OF_ZONE = ['timezone']
+const OF_QUERY = ['noBackslashEscape']
+
+function bind(query, params, options) {
+  if (options === undefined) return bound(BIND | kindOf(query), query, params, undefined)
+  judgeOptions(options, OF_MODE)
+  return bound(BIND | kindOf(query) | modeOf(options), query, params, dates.zoneOf(options.timezone))
+}
+
+/** A call without a mode. */
+function steady(call, query, params, options) {
+  if (options === undefined) return bound(call | kindOf(query), query, params, undefined)
+  judgeOptions(options, OF_ZONE)
+  return bound(call | kindOf(query), query, params, dates.zoneOf(options.timezone))
+}
+
+function bindAnywhere(query, params, options) {
+  return steady(ANYWHERE, query, params, options)
+}
+
+function bindInBothModes(query, params, options) {
+  return steady(BOTH_MODES, query, params, options)
+}
+
+/** Calls with a form that stands already. */
+function withForm(given, use) {
+  if (!isUint8Array(given)) throw new TypeError('a form is a Uint8Array')
+  const form = takeForm(undefined, true)
+  try {
+    form.take(given)
+    return use(form)
+  } finally {
+    giveForm(form)
+  }
+}
+
+/** The text of a query and a form that stands already. */
+function boundForm(flags, query, given) {
+  return withForm(given, (form) => textOf(flags, query, form))
+}
+
+/** The text of a query and parameters that were written before. */
+function boundWritten(flags, query, written) {
+  return boundForm(written.isFragments ? flags | FRAGMENTS : flags, query, written.form)
+}
+
+function bindForm(query, form, options = {}) {
+  judgeOptions(options, OF_QUERY)
+  return boundForm(BIND | kindOf(query) | modeOf(options), query, form)
+}
+
+function bindFormAnywhere(query, form) {
+  return boundForm(ANYWHERE | kindOf(query), query, form)
+}
+
+function bindFormInBothModes(query, form) {
+  return boundForm(BOTH_MODES | kindOf(query), query, form)
+}
+
+function names(query, options = {}) {
+  judgeOptions(options, OF_QUERY)
+  const flags = kindOf(query) | modeOf(options)
+  const [renamed, ...found] = asked((more) => native.names(more, query), flags, query)
+  return { query: renamed, names: found }
+}
+
+/** The first construct of a query, or null. */
+function firstOf(query, options, more) {
+  judgeOptions(options, OF_QUERY)
+  const flags = kindOf(query) | modeOf(options) | more
+  let told = native.firstUnportable(flags, query)
+  if (told === undefined) {
+    judgeQuery(query)
+    told = native.firstUnportable(flags | CHECKED, query)
+  }
+  if (told === 0) return null
+  const refusal = refusalOf(told, query, flags)
+  if (refusal.kind !== 'UNPORTABLE') throw refusal
+  const number = CONSTRUCTS.indexOf(refusal.construct)
+  return { construct: refusal.construct, number, position: refusal.position, message: native.constructMessage(number) }
+}
+
+function firstUnportable(query, options = {}) {
+  return firstOf(query, options, 0)
+}
+
+function firstUnportableInClient(query, options = {}) {
+  return firstOf(query, options, IN_CLIENT)
+}
+
+module.exports = {
+  OF_MODE,
+  OF_QUERY,
+  OF_ZONE,
+  asked,
+  bind,
+  bindAnywhere,
+  bindForm,
+  bindFormAnywhere,
+  bindFormInBothModes,
+  bindInBothModes,
+  boundWritten,
+  firstUnportable,
+  firstUnportableInClient,
+  judgeOptions,
+  judgeQuery,
+  kindOf,
+  modeOf,
+  names,
+  withForm
+}
