@@ -46,6 +46,12 @@ class Session {
     if (kind === 'ChangeUser' || (kind === 'Query' && !LEAVES_SESSION.test(String(command.sql)))) this.forget()
   }
 
+  /** Sends the text of a query, and has the connection asked anew if that may change the session. */
+  send(query, text, done) {
+    this.give(text, done)
+    if (!LEAVES_SESSION.test(query)) this.forget()
+  }
+
   /** Gives the driver a text without parameters, and nothing that it would put into the text. */
   give(text, done, more) {
     const { connection } = this
@@ -75,8 +81,8 @@ class Session {
     this.question = question
     this.told = null
     const answered = (error, rows) => {
-      // A command that may have changed the session came between.
       if (this.question !== question && !error) {
+        // A command that may have changed the session came between, or a later question.
         if (this.question === null) this.askNow()
         return
       }
@@ -93,7 +99,11 @@ class Session {
       this.waiting = []
       for (const use of waiting) use(error, told)
     }
-    this.give(QUESTION, answered, { typeCast: true, nestTables: false, rowsAsArray: false })
+    try {
+      this.give(QUESTION, answered, { typeCast: true, nestTables: false, rowsAsArray: false })
+    } catch (fault) {
+      answered(fault)
+    }
   }
 }
 
@@ -167,15 +177,12 @@ function sendOver(connection, query, written, always, done) {
   judge(connection)
   const session = sessionOf(connection)
   session.ask(always, (error, told) => {
-    let text
     try {
       if (error) throw error
-      text = textFor(told, query, written)
+      session.send(query, textFor(told, query, written), done)
     } catch (fault) {
       done(fault)
-      return
     }
-    session.give(text, done)
   })
 }
 

@@ -354,8 +354,8 @@ test('getters that bind', () => {
   for (let i = 0; i < 3; i++) assert.throws(() => bind(':a, :b', broken), { message: 'of a getter' })
   assert.equal(bind(':a, :b, :c', params), "'first', 'SELECT \\'within\\'', 'last'")
   const shrinking = [1, 2, 3]
-  Object.defineProperty(shrinking, 0, { get() { shrinking.length = 1; return 1 } })
-  assert.throws(() => bind('(?)', [shrinking]), /item 1 of the value for place 0 is undefined/)
+  Object.defineProperty(shrinking, 1, { get() { shrinking.length = 2; return 1 } })
+  assert.throws(() => bind('(?)', [shrinking]), /item 2 of the value for place 0 is undefined/)
 })
 
 test('options and queries', () => {

@@ -1,0 +1,132 @@
+'use strict'
+// No call keeps memory: each kind of answer and of refusal, CALLS times (40,000, so that all are more than a million). The heap of
+// JavaScript, the memory of its buffers and that of the process stay as they were. It needs `node --expose-gc`.
+
+const assert = require('node:assert/strict')
+const { test } = require('node:test')
+const { mysqlParams } = require('./shared_cases.js')
+
+const { Decimal, Double, Identifier, Keyword, Template, bind, bindAnywhere, bindForm, bindInBothModes, bindRows } = mysqlParams
+
+const CALLS = Number(process.env.CALLS ?? 40000)
+const MORE_HEAP = 1 << 20
+const MORE_RSS = 12 << 20
+
+const VALUES = [null, true, 7, 2n ** 63n, 0.5, "it's", 'é', Buffer.from([255]), new Date(0), new Decimal('1.5'), new Double(2), 2n ** 70n]
+const MORE = [...VALUES, [1, 'a', null], [[1, 2], [3, 'é']], new Identifier('a', 'b'), new Keyword('ASC', ['ASC'])]
+const MARKS = MORE.map(() => '?').join()
+const UTC = { timezone: 'Z' }
+const NAMED = { a: 1, b: "it's" }
+const LONG = 'x'.repeat(1 << 17)
+const TEMPLATE = new Template(':a')
+const form = (hex) => Buffer.from(hex, 'hex')
+
+const ANSWERS = {
+  values: () => bind(MARKS, MORE, UTC),
+  names: () => bind(':a, :b', NAMED),
+  'without escapes': () => bind(':a, :b', NAMED, { noBackslashEscape: true }),
+  anywhere: () => bindAnywhere(MARKS, MORE, UTC),
+  'both modes': () => bindInBothModes('?, ?', [1, 'é']),
+  bytes: () => bind(Buffer.from('?'), [1]),
+  form: () => bindForm('?', form('000600')),
+  template: () => TEMPLATE.bind({ a: [1, 2] }),
+  'new template': () => new Template('?, ?').bindForm(form('000600000600')),
+  rows: () => bindRows('?, ?', [[1, 'a'], [0.5, null], [3, 'b']]),
+  'names of a query': () => mysqlParams.names(':a, :b'),
+  portable: () => mysqlParams.firstUnportable(':a'),
+  unportable: () => mysqlParams.firstUnportableInClient('[:a')
+}
+
+const REFUSALS = {
+  3: () => bindForm('?', form('000800')),
+  4: () => bindForm('?', form('fb')),
+  5: () => bindForm('?', form('00110000')),
+  6: () => bindForm('?', form('00060001610600')),
+  7: () => bindForm(':a', form('0161060001610600')),
+  8: () => bind(':a ?'),
+  9: () => bind(':a, :b', { a: 1 }),
+  10: () => bind('?', { a: 1 }),
+  11: () => bind(':a', [1]),
+  12: () => bind('?', MORE, UTC),
+  13: () => bind('1:größe', { gr: 1 }),
+  14: () => bind(':a', { a: NaN }),
+  15: () => bindAnywhere('ä?', [1]),
+  16: () => bindAnywhere('[?', [1]),
+  17: () => bind(':a', { a: [] }),
+  18: () => bindInBothModes("'\\\\' ?", [1]),
+  19: () => bindAnywhere('?', [new Identifier('ä')]),
+  value: () => bind('?', [{ a: 1 }]),
+  item: () => bind('?', [[1, undefined]]),
+  'lone surrogate': () => bind('?', ['\ud800']),
+  query: () => bind('\ud800'),
+  row: () => bindRows('?', [[1], [1, 2]]),
+  option: () => bind('?', [1], { mode: true })
+}
+
+const LONG_CALLS = {
+  'long text': () => bind('?', [LONG]),
+  'long query': () => bind(`/*${LONG}*/?`, [1]),
+  'long rows': () => bindRows('?', [[LONG], [LONG]]),
+  'long refusal': () => bind('?, ?', [LONG]),
+  'long template': () => new Template(`/*${LONG}*/?`).bind([1]),
+  'long bytes': () => bind(Buffer.from(`/*${LONG}*/?`), [LONG])
+}
+
+/** Calls so often; what is thrown says nothing here. */
+function repeat(call, count) {
+  for (let i = 0; i < count; i++) {
+    try {
+      call()
+    } catch {}
+  }
+}
+
+/** The bytes of the heap and of buffers, and of the process, once what can be freed is. */
+async function held() {
+  for (let i = 0; i < 3; i++) {
+    gc()
+    await new Promise(setImmediate) // Finalizers run then.
+  }
+  const { heapUsed, external, rss } = process.memoryUsage()
+  return { heap: heapUsed + external, rss }
+}
+
+/** Memory doesn't grow by calls. Node may keep something once; a leak comes again. */
+async function judge(name, call, count) {
+  repeat(call, count / 10)
+  let more
+  for (let tries = 0; tries < 3; tries++) {
+    const before = await held()
+    repeat(call, count)
+    const after = await held()
+    more = { heap: after.heap - before.heap, rss: after.rss - before.rss }
+    if (more.heap < MORE_HEAP && more.rss < MORE_RSS) return
+  }
+  assert.fail(`${name}: ${count} calls leave ${more.heap} bytes more on the heap, and ${more.rss} of the process`)
+}
+
+const skip = typeof gc === 'function' ? false : 'node --expose-gc is wanted'
+
+test(`answers, ${CALLS} times each`, { skip }, async () => {
+  for (const [name, call] of Object.entries(ANSWERS)) {
+    call()
+    await judge(name, call, CALLS)
+  }
+})
+
+test(`refusals, ${CALLS} times each`, { skip }, async () => {
+  for (const [name, call] of Object.entries(REFUSALS)) {
+    assert.throws(call, (error) => (/^\d/.test(name) ? error.code === Number(name) : error instanceof Error))
+    await judge(name, call, CALLS)
+  }
+})
+
+test(`long calls, ${CALLS / 100} times each`, { skip }, async () => {
+  for (const [name, call] of Object.entries(LONG_CALLS)) await judge(name, call, CALLS / 100)
+})
+
+test('each refusal is here', () => {
+  // All numbers except those of memory, of a room, and of another table.
+  const all = Array.from({ length: 17 }, (_, i) => String(i + 3))
+  assert.deepEqual(Object.keys(REFUSALS).filter((name) => /^\d/.test(name)), all)
+})

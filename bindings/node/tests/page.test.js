@@ -1,0 +1,129 @@
+'use strict'
+// The page of the package, packages/node.md: each program writes what the page says, and each row of its tables of texts is true.
+
+const assert = require('node:assert/strict')
+const { spawnSync } = require('node:child_process')
+const fs = require('node:fs')
+const os = require('node:os')
+const path = require('node:path')
+const { after, before, test } = require('node:test')
+const vm = require('node:vm')
+const { mysqlParams } = require('./shared_cases.js')
+const server = require('./server.js')
+
+const PAGE = fs.readFileSync(path.resolve(__dirname, '../../../packages/node.md'), 'utf8')
+const PROGRAMS = [...PAGE.matchAll(/^```js\n(.*?)^```\n\n```text\n(.*?)^```$/gms)].map(([, program, text]) => ({ program, text }))
+
+let why = server.missing()
+try {
+  require('mysql')
+} catch {
+  why ??= 'node-mysql is missing'
+}
+
+let folder
+let running
+
+before(async () => {
+  folder = fs.mkdtempSync(path.join(os.tmpdir(), 'mysql-params-page-'))
+  fs.mkdirSync(path.join(folder, 'node_modules'))
+  fs.symlinkSync(path.resolve(process.env.MYSQL_PARAMS), path.join(folder, 'node_modules/mysql-params'))
+  if (why === null) running = await server.start()
+  // The page's connections are those of the test's server.
+  fs.writeFileSync(path.join(folder, 'here.js'), `
+    const mysql = require('mysql')
+    const here = { user: 'root', socketPath: ${JSON.stringify(running?.socket ?? '')}, database: undefined }
+    for (const name of ['createConnection', 'createPool']) {
+      const made = mysql[name]
+      mysql[name] = (options) => made({ ...options, ...here })
+    }`)
+  if (why === null) spawnSync(process.execPath, ['-e', "require('mysql').createConnection({}).query('CREATE DATABASE shop', () => process.exit())"], run())
+}, { timeout: 120000 })
+
+after(async () => {
+  await running?.stop()
+  fs.rmSync(folder, { recursive: true, force: true })
+})
+
+/** How a program of the page is run. */
+function run() {
+  const env = { ...process.env, NODE_OPTIONS: why === null ? `--require ${path.join(folder, 'here.js')}` : '' }
+  return { cwd: folder, env, encoding: 'utf8' }
+}
+
+test('each block of JavaScript is a program with its text', () => {
+  assert.equal(PROGRAMS.length, [...PAGE.matchAll(/^```js$/gm)].length)
+  assert.ok(PROGRAMS.length >= 6)
+})
+
+for (const [i, { program, text }] of PROGRAMS.entries()) {
+  const skip = program.includes("require('mysql')") && why !== null ? why : false
+  test(`program ${i + 1} of the page`, { skip }, () => {
+    const file = path.join(folder, `${i}.${program.includes('import {') ? 'mjs' : 'cjs'}`)
+    fs.writeFileSync(file, program)
+    const { stdout, stderr } = spawnSync(process.execPath, [file], run())
+    assert.equal(stderr, '')
+    assert.equal(stdout, text)
+  })
+}
+
+/** The cells of the rows of a table with this head, without the backquotes of a code. */
+function rowsOf(head) {
+  const [, rows] = new RegExp(`^${head.replaceAll('|', '\\|')}\\n\\|[-|]*\\n((?:\\|.*\\n)*)`, 'm').exec(PAGE)
+  const plain = (cell) => cell.trim().replace(/^``(.*?) ?``$|^`(.*?)`$/, (found, one, other) => one ?? other)
+  return rows.trim().split('\n').map((row) => row.split('|').slice(1, -1).map(plain))
+}
+
+const valueOf = (text) => vm.runInThisContext(`(names) => { const { Decimal, Double, Identifier, Keyword } = names; return (${text}) }`)(mysqlParams)
+
+test('the table of what to write', () => {
+  const rows = rowsOf('| You want | Query | Values | Text |')
+  assert.ok(rows.length >= 9)
+  for (const [, query, values, text] of rows) assert.equal(mysqlParams.bind(query, valueOf(values)), text)
+})
+
+test('the table of values', () => {
+  const rows = rowsOf('| Value | Example | Written by `bind` |')
+  assert.ok(rows.length >= 20)
+  for (const [, example, written] of rows) {
+    const refused = /^(\w+Error)\b/.exec(written)
+    const call = () => mysqlParams.bind('?', [valueOf(example)])
+    if (refused === null) assert.equal(call(), written)
+    else assert.throws(call, { name: refused[1] }, example)
+  }
+})
+
+test('the examples within the text', () => {
+  const { bind, firstUnportable } = mysqlParams
+  assert.equal(bind("SELECT ':a', :a", { a: 1 }), "SELECT ':a', 1")
+  for (const query of ['1?', '??', 'lbl:LOOP', 'x:a']) {
+    assert.ok(PAGE.includes(`\`${query}\``))
+    assert.throws(() => bind(query, query.includes('?') ? query.split('').filter((letter) => letter === '?').map(() => 1) : { a: 1, LOOP: 1 }), { kind: 'NOT_ALONE' })
+  }
+  assert.equal(bind('lbl: LOOP'), 'lbl: LOOP')
+  assert.equal(bind(':user_id, :userId, :ID, :id', { user_id: 1, userId: 2, ID: 3, id: 4 }), '1, 2, 3, 4')
+  assert.equal(firstUnportable('SELECT /*! :a */ 1').construct, 'EXECUTABLE_COMMENT')
+  const head = /^The `UNSTEADY`/
+  assert.ok(!head.test(PAGE))
+})
+
+test('the kinds that are listed are those of the types', () => {
+  const types = fs.readFileSync(path.resolve(__dirname, '../index.d.ts'), 'utf8')
+  const [, listed] = /^export type Kind =\n((?: {2}\| '\w+'\n)*)/m.exec(types)
+  const kinds = [...listed.matchAll(/'(\w+)'/g)].map(([, kind]) => kind)
+  const onPage = rowsOf('| Kind | When |').flatMap(([cell]) => cell.match(/[A-Z_]{3,}/g))
+  // What refuses a form is told by the numbers of mysql_params.h.
+  assert.deepEqual(new Set(onPage), new Set(kinds.filter((kind) => !kind.startsWith('FORM_'))))
+})
+
+test('what node-mysql does there', { skip: why === null || why.startsWith('mariadb') ? false : why }, () => {
+  const { format } = require('mysql')
+  assert.equal(format('password = ?', [{ password: 1 }]), 'password = `password` = 1')
+  assert.equal(format('?, ?', [undefined, NaN]), 'NULL, NaN')
+  assert.equal(format("'?' /* ? */", [1, 2]), "'1' /* 2 */")
+  assert.equal(format('??', ['a']), '`a`')
+  assert.equal(format('?, ?', [1]), '1, ?')
+  assert.equal(format('?, ?', [1.5, 1e21]), '1.5, 1e+21')
+  const date = new Date(2019, 0, 2, 3, 4, 5)
+  assert.equal(format('?', [date]), "'2019-01-02 03:04:05.000'")
+})

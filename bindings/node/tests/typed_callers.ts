@@ -1,0 +1,57 @@
+// Callers that TypeScript has to take, and those that it has to refuse.
+import mysqlParams = require('mysql-params')
+import { BindError, Decimal, Double, Identifier, Keyword, SessionError, Template, bind, bindAnywhere, bindInBothModes } from 'mysql-params'
+import { askAgain, bindRows, execute, firstUnportable, names, query } from 'mysql-params'
+
+const text: string = bind('SELECT ?', [1])
+const bytes: Buffer = bind(Buffer.from('SELECT ?'), [1])
+const named: string = bindAnywhere('SELECT :a', { a: 'x', b: null, c: 1n, d: true, e: new Date(), f: Buffer.from('x') }, { timezone: 'Z' })
+const mapped: string = bind(':a', new Map([['a', 1]]))
+const lists: string = bind('? ? ? ?', [[1, 'a', new Decimal('1.5')], [[1, 'a'], [2, 'b']], new Identifier('a', 'b'), new Keyword('ASC', ['ASC'])])
+const plain: string = bindInBothModes('?', [new Double(1)], { timezone: 'local' })
+const rows: string[] = bindRows('?', [[1], [2]], { noBackslashEscape: true })
+const template: string = new Template('?').bind([1])
+const ofBytes: Buffer = new Template(Buffer.from('?')).bind([1])
+const found: string[] = names('SELECT :a').names
+const construct: string | undefined = firstUnportable('SELECT 1')?.construct
+const all: typeof bind = mysqlParams.bind
+
+declare const connection: { query(sql: string, done: () => void): void }
+async function sent(): Promise<void> {
+  const [results, fields] = await query(connection, 'SELECT ?', [1], { alwaysAsk: true })
+  const { affectedRows } = await execute(connection, 'DELETE FROM t WHERE id = :id', { id: 1 })
+  askAgain(connection)
+  void [results, fields, affectedRows]
+}
+
+try {
+  bind('?', [1])
+} catch (error) {
+  if (error instanceof SessionError) error.variable.trim()
+  else if (error instanceof BindError && error.kind === 'MISSING') error.placeName?.trim()
+}
+
+// @ts-expect-error
+bind('?', [undefined])
+// @ts-expect-error
+bind('?', [{ password: 1 }])
+// @ts-expect-error
+bind(':a', { a: () => 1 })
+// @ts-expect-error
+bind('?', [Symbol('x')])
+// @ts-expect-error
+bind('?', [1], { no_backslash_escape: true })
+// @ts-expect-error
+bindAnywhere('?', [1], { noBackslashEscape: true })
+// @ts-expect-error
+bindInBothModes('?', [[1, 2]])
+// @ts-expect-error
+bind(5)
+// @ts-expect-error
+new Keyword('ASC', 'ASC')
+// @ts-expect-error
+new Identifier()
+// @ts-expect-error
+query({}, 'SELECT 1')
+
+void [text, bytes, named, mapped, lists, plain, rows, template, ofBytes, found, construct, all, sent]
