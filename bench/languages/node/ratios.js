@@ -1,9 +1,9 @@
-// Times the package mysql-params beside `mysql.format` of node-mysql in one process, and prints a row of a table: calls a second of
-// mysql.format, and the ratios of the package's calls to it.
+// Times the package mysql-params beside `mysql.format` of node-mysql in one process, and prints rows of a table: the call, the input,
+// the driver's own, the driver's calls a second, the package's, and how many times as many that is.
 //
 // `run` beside it calls it.
 //
-// A ratio is how many times as many calls the package makes: with 2.0, half the time. Each way has its turn ROUNDS (15) times, on
+// With 2.00 the package takes half the time. Each way has its turn ROUNDS (15) times, on
 // the same values, and its best counts, of processor time. ROWS (100000) rows have a number and a text. No server is needed: texts
 // are made and not sent. Where both write the same literals, the texts have to be equal.
 'use strict'
@@ -77,15 +77,12 @@ function ofRows() {
   }, 1)
 }
 
-/** A line of the table: the first way's calls a second, and how many times as many each other way makes. */
-function line(what, best) {
-  const [[, first], ...others] = Object.entries(best)
-  const ratios = others.map(([name, time]) => `${name} ${(first / time).toFixed(2)}`)
-  return `| Node: ${what} | ${Math.round(1e6 / first)} | ${ratios.join(', ')} |`
+/** The rows of the table of an input: each way's calls a second, and how many times as many it makes as the first way. */
+function rowsOf(input, best) {
+  const [, first] = Object.entries(best)[0]
+  const second = (time) => Math.round(1e6 / time)
+  const others = Object.entries(best).slice(1)
+  return others.map(([name, time]) => `| Node: \`${name}\` | ${input} | \`mysql.format\` | ${second(first)} | ${second(time)} | ${(first / time).toFixed(2)} |`)
 }
 
-const driver = `mysql.format of node-mysql ${mysql.createConnection === undefined ? '' : '2.18'}`
-console.log(`| ${process.version}, ${driver} | its calls a second | as many times the calls |`)
-console.log('|---|---:|---|')
-console.log(line('12 names', ofNames()))
-console.log(line(`${ROWS} rows of 2 values`, ofRows()))
+for (const row of [...rowsOf('12 names', ofNames()), ...rowsOf(`${ROWS} rows of 2 values`, ofRows())]) console.log(row)

@@ -3,9 +3,13 @@
 
 const { isUint8Array } = require('node:util/types')
 const { ANYWHERE, BIND, BOTH_MODES, BYTES, CHECKED, FRAGMENTS, IN_CLIENT, MODE, native } = require('./native.js')
+const { asked, judgeQuery } = require('./asked.js')
 const { CONSTRUCTS, refusalOf } = require('./errors.js')
-const { giveForm, isWellFormed, takeForm, writeParams } = require('./form.js')
+const { giveForm, takeForm, writeParams } = require('./form.js')
+const { keptOf } = require('./kept.js')
 const dates = require('./dates.js')
+
+const CALLS = ANYWHERE | BOTH_MODES
 
 /** The bit of a call that says what its query is. */
 function kindOf(query) {
@@ -33,22 +37,6 @@ function modeOf(options) {
   throw new TypeError('noBackslashEscape is true or false: whether @@sql_mode has NO_BACKSLASH_ESCAPES')
 }
 
-/** Throws for a query with a lone surrogate. */
-function judgeQuery(query) {
-  if (!isWellFormed(query)) throw new TypeError('the query has a lone surrogate, which has no UTF-8')
-}
-
-/** Asks the addon, by a function of the flags, and again if the query was to be looked at; throws what it refuses. */
-function asked(ask, flags, query) {
-  let told = ask(flags)
-  if (told === undefined) {
-    judgeQuery(query)
-    told = ask(flags | CHECKED)
-  }
-  if (Array.isArray(told) && typeof told[0] === 'number') throw refusalOf(told, query, flags)
-  return told
-}
-
 /** The text of a query and a form that is written. */
 function textOf(flags, query, form) {
   const all = form.isFragments ? flags | FRAGMENTS : flags
@@ -59,7 +47,10 @@ function textOf(flags, query, form) {
 }
 
 function bound(flags, query, params, zone) {
-  const form = takeForm(zone, (flags & 3) !== BOTH_MODES)
+  const takesMore = (flags & CALLS) !== BOTH_MODES
+  const kept = flags & BYTES ? undefined : keptOf(query, flags)
+  if (kept !== undefined) return kept.bind(flags, params, zone, takesMore)
+  const form = takeForm(zone, takesMore)
   try {
     writeParams(form, params)
     return textOf(flags, query, form)
@@ -163,7 +154,6 @@ module.exports = {
   OF_MODE,
   OF_QUERY,
   OF_ZONE,
-  asked,
   bind,
   bindAnywhere,
   bindForm,
@@ -174,7 +164,6 @@ module.exports = {
   firstUnportable,
   firstUnportableInClient,
   judgeOptions,
-  judgeQuery,
   kindOf,
   modeOf,
   names,

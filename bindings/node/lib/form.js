@@ -388,6 +388,47 @@ function writeObject(form, params) {
   }
 }
 
+/**
+ * Appends the values of an object in the order of the places of their names, without the names. False, after any bytes, unless it
+ * has just these names, and each value can be written.
+ */
+function writeInPlaces(form, params, names, places) {
+  if (typeof params !== 'object' || params === null) return false
+  const prototype = Object.getPrototypeOf(params)
+  if (prototype !== Object.prototype && prototype !== null) return false
+  const values = new Array(names.length)
+  let count = 0
+  let next = 0
+  for (const name in params) {
+    if (!isOwn.call(params, name)) continue
+    const place = name === names[next] ? next : places.get(name)
+    if (place === undefined) return false
+    values[place] = params[name]
+    next = place + 1
+    count++
+  }
+  if (count !== names.length) return false
+  for (let i = 0; i < count; i++) {
+    if (form.len + 1 + MOST_SHORT > form.size) form.grow(1 + MOST_SHORT)
+    const { bytes, len } = form
+    bytes[len] = 0
+    const end = putCommon(bytes, len + 1, values[i])
+    form.len = end < 0 ? len + 1 : end
+    if (end < 0 && !canWrite(form, values[i], i)) return false
+  }
+  return true
+}
+
+/** Appends what stands in a place. False if it is refused, without a word of why. */
+function canWrite(form, value, place) {
+  try {
+    writePlace(form, value, place)
+    return true
+  } catch {
+    return false
+  }
+}
+
 function writeInOrder(form, params) {
   const count = params.length
   for (let i = 0; i < count; i++) {
@@ -446,4 +487,4 @@ function giveForm(form) {
   waiting = form.size <= KEPT ? form : new Form(1 << 16)
 }
 
-module.exports = { Form, giveForm, isWellFormed, takeForm, writeParams }
+module.exports = { Form, giveForm, isWellFormed, takeForm, writeInPlaces, writeParams }

@@ -2,6 +2,7 @@
 // One query bound to row after row, in few calls of the addon.
 
 const { BIND, FRAGMENTS, native } = require('./native.js')
+const { asked, judgeQuery } = require('./asked.js')
 const { BindError } = require('./errors.js')
 const { giveForm, takeForm, writeParams } = require('./form.js')
 const calls = require('./calls.js')
@@ -34,7 +35,7 @@ class Rows {
     if (end === 0) return
     const { flags, form, query, texts } = this
     try {
-      calls.asked((all) => native.bindRows(all, query, form.bytes.buffer, 0, end, texts, texts.length), flags, query)
+      asked((all) => native.bindRows(all, query, form.bytes.buffer, 0, end, texts, texts.length), flags, query)
     } catch (fault) {
       throw tell(fault, texts.length, texts)
     }
@@ -45,7 +46,7 @@ class Rows {
     const { flags, form, query, texts } = this
     const ask = (all) => native.bind(all, query, form.bytes.buffer, begin, form.len)
     try {
-      texts.push(calls.asked(ask, flags | FRAGMENTS, query))
+      texts.push(asked(ask, flags | FRAGMENTS, query))
     } catch (fault) {
       throw tell(fault, texts.length, texts)
     }
@@ -87,7 +88,7 @@ function boundRows(flags, query, rows, zone) {
   if (rows === null || rows === undefined || typeof rows[Symbol.iterator] !== 'function' || typeof rows === 'string') {
     throw new TypeError('rows are an array, or another iterable, of parameters')
   }
-  if (typeof query === 'string') calls.judgeQuery(query)
+  if (typeof query === 'string') judgeQuery(query)
   const gathered = new Rows(flags, query, zone)
   try {
     for (const row of rows) gathered.add(row)

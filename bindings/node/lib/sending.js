@@ -3,6 +3,7 @@
 
 const { EventEmitter } = require('node:events')
 const { BIND, MODE, native } = require('./native.js')
+const { judgeQuery } = require('./asked.js')
 const { BindError, SessionError, refusalOf } = require('./errors.js')
 const { giveForm, takeForm, writeParams } = require('./form.js')
 const calls = require('./calls.js')
@@ -190,7 +191,7 @@ function sendOver(connection, query, written, always, done) {
 function send(given, query, params, options, done) {
   calls.judgeOptions(options, OPTIONS)
   if (typeof query !== 'string') throw new TypeError('a query that is sent is a string')
-  calls.judgeQuery(query)
+  judgeQuery(query)
   const core = coreOf(given)
   const written = writtenOf(params, dates.zoneOf(options.timezone))
   const always = options.alwaysAsk === true
