@@ -56,9 +56,9 @@ function expect(found, call, query) {
   assert.deepEqual(Buffer.from(text), found.texts[0], found.lines.join('\n'))
 }
 
-/** A case by a call, with its query as a string and as bytes. */
+/** A case by a call, with its query as a string and as bytes. Places of a string are kept from the second call on. */
 function expectBoth(found, call) {
-  expect(found, () => call(found.query), found.query)
+  for (let i = 0; i < 3; i++) expect(found, () => call(found.query), found.query)
   const bytes = Buffer.from(found.query)
   expect(found, () => call(bytes), bytes)
 }
