@@ -1,11 +1,11 @@
-// Times the package mysql-params beside `mysql.format` of node-mysql in one process, and prints rows of a table: the call, the input,
-// the driver's own, the driver's calls a second, the package's, and how many times as many that is.
+// Times the package mysql-params beside `mysql.format` of node-mysql in one process, and prints rows of a table: the call, the
+// input, the driver's own, the driver's calls a second, the package's, and how many times as many that is.
 //
 // `run` beside it calls it.
 //
-// With 2.00 the package takes half the time. Each way has its turn ROUNDS (15) times, on
-// the same values, and its best counts, of processor time. ROWS (100000) rows have a number and a text. No server is needed: texts
-// are made and not sent. Where both write the same literals, the texts have to be equal.
+// With 2.00 the package takes half the time. Each way has its turn ROUNDS (15) times, on the same values, and its best counts, of
+// processor time. ROWS (100000) rows have a number and a text. No server is needed: texts are made and not sent. Where both write
+// the same literals, the texts have to be equal.
 'use strict'
 
 const path = require('node:path')
@@ -52,11 +52,13 @@ function timesOf(ways, count) {
 }
 
 function ofNames() {
-  const where = (mark) => `SELECT * FROM users WHERE ${NAMES.map((name, i) => `${name} ${i % 3 ? '=' : '<'} ${mark(name)}`).join(' AND ')}`
+  const conditions = (mark) => NAMES.map((name, i) => `${name} ${i % 3 ? '=' : '<'} ${mark(name)}`)
+  const where = (mark) => `SELECT * FROM users WHERE ${conditions(mark).join(' AND ')}`
   const [marks, names] = [where(() => '?'), where((name) => `:${name}`)]
   const named = Object.fromEntries(NAMES.map((name, i) => [name, VALUES[i]]))
   const template = new params.Template(names)
-  for (const text of [params.bind(names, named), params.bind(marks, VALUES), template.bind(named)]) same(text, mysql.format(marks, VALUES))
+  for (const text of [params.bind(names, named), params.bind(marks, VALUES), template.bind(named)]) same(text,
+    mysql.format(marks, VALUES))
   return timesOf({
     format: () => mysql.format(marks, VALUES),
     bindAnywhere: () => params.bindAnywhere(names, named),
@@ -79,10 +81,12 @@ function ofRows() {
 
 /** The rows of the table of an input: each way's calls a second, and how many times as many it makes as the first way. */
 function rowsOf(input, best) {
-  const [, first] = Object.entries(best)[0]
+  const [first, ...others] = Object.entries(best)
   const second = (time) => Math.round(1e6 / time)
-  const others = Object.entries(best).slice(1)
-  return others.map(([name, time]) => `| Node: \`${name}\` | ${input} | \`mysql.format\` | ${second(first)} | ${second(time)} | ${(first / time).toFixed(2)} |`)
+  return others.map(([name, time]) => {
+    const cells = [`Node: \`${name}\``, input, '`mysql.format`', second(first[1]), second(time), (first[1] / time).toFixed(2)]
+    return `| ${cells.join(' | ')} |`
+  })
 }
 
 for (const row of [...rowsOf('12 names', ofNames()), ...rowsOf(`${ROWS} rows of 2 values`, ofRows())]) console.log(row)

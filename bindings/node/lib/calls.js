@@ -25,7 +25,8 @@ function judgeOptions(options, known) {
     throw new TypeError(`options are an object, as { ${known[0]}: .. }, and not ${options === null ? 'null' : typeof options}`)
   }
   for (const name of Object.keys(options)) {
-    if (!known.includes(name)) throw new TypeError(`there is no option ${JSON.stringify(name)}: the options are ${known.join(', ')}`)
+    if (known.includes(name)) continue
+    throw new TypeError(`there is no option ${JSON.stringify(name)}: the options are ${known.join(', ')}`)
   }
 }
 

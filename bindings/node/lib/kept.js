@@ -7,9 +7,9 @@ const { giveForm, takeForm, writeInPlaces, writeParams } = require('./form.js')
 const { asked } = require('./asked.js')
 
 /**
- * A query and its table. If its names differ from each other, also the table of the query with `?` in their places: values of just
- * these names are written in the order of the places, and no name crosses the border. The archive then binds the same literals to
- * the same pieces. What it refuses there is bound by the query itself, whose refusal counts.
+ * A query and its table. If its names differ from each other, also the table of the query with `?` in their places: values of
+ * just these names are written in the order of the places, and no name crosses the border. The archive then binds the same
+ * literals to the same pieces. What it refuses there is bound by the query itself, whose refusal counts.
  */
 class Kept {
   constructor(query, flags) {

@@ -20,6 +20,8 @@ function placeText(place) {
 }
 
 const MORE_DIGITS = [RangeError, 'has more than 65 digits, of which servers keep no more']
+const BEYOND_SAFE = 'is a whole number beyond 2^53, which a number may not hold exactly: give a BigInt, or a new Double(..)'
+const ONLY_VALUES = 'and this call takes only values: bind and bindAnywhere take it'
 const NO_UTF8 = 'a lone surrogate, which has no UTF-8'
 
 /** What an object is called, and what to give instead. */
@@ -47,7 +49,7 @@ function ofOwn(form, value) {
   }
   const digits = digitsOf(value)
   if (digits === undefined) return undefined
-  if (!form.takesMore) return [TypeError, 'is a Decimal, and this call takes only values: bind and bindAnywhere take it']
+  if (!form.takesMore) return [TypeError, `is a Decimal, ${ONLY_VALUES}`]
   return /\p{Surrogate}/u.test(digits) ? [TypeError, `is a Decimal with ${NO_UTF8}`] : MORE_DIGITS
 }
 
@@ -57,10 +59,10 @@ function reason(form, value) {
     case 'string':
       return [TypeError, `is a string with ${NO_UTF8}`]
     case 'number':
-      return [RangeError, 'is a whole number beyond 2^53, which a number may not hold exactly: give a BigInt, or a new Double(..)']
+      return [RangeError, BEYOND_SAFE]
     case 'bigint':
       if (form.takesMore) return MORE_DIGITS
-      return [RangeError, 'is a whole number of more than 64 bits, and this call takes only values: bind and bindAnywhere take it']
+      return [RangeError, `is a whole number of more than 64 bits, ${ONLY_VALUES}`]
     case 'undefined':
       return [TypeError, 'is undefined: give null for NULL']
     case 'object':

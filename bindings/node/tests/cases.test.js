@@ -14,7 +14,8 @@ function wanted(field, told, refusal) {
   if (field === 'placeName') return told === undefined ? undefined : bytesOf(told).toString()
   const number = Number(told ?? 0)
   const names = Object.entries(NUMBERS)
-  if (field === 'fault') return names.find(([name, own]) => name.startsWith('FAULT_') && own === number)[0].slice('FAULT_'.length)
+  if (field === 'fault') return names.find(([name, own]) => name.startsWith('FAULT_') &&
+    own === number)[0].slice('FAULT_'.length)
   if (field === 'construct') return CONSTRUCTS[number]
   assert.ok(refusal in NUMBERS)
   return number

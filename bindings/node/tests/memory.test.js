@@ -1,6 +1,6 @@
 'use strict'
-// No call keeps memory: each kind of answer and of refusal, CALLS times (40,000, so that all are more than a million). The heap of
-// JavaScript, the memory of its buffers and that of the process stay as they were. It needs `node --expose-gc`.
+// No call keeps memory: each kind of answer and of refusal, CALLS times (40,000, so that all are more than a million). The heap
+// of JavaScript, the memory of its buffers and that of the process stay as they were. It needs `node --expose-gc`.
 
 const assert = require('node:assert/strict')
 const { test } = require('node:test')
@@ -12,7 +12,8 @@ const CALLS = Number(process.env.CALLS ?? 40000)
 const MORE_HEAP = 1 << 20
 const MORE_RSS = 12 << 20
 
-const VALUES = [null, true, 7, 2n ** 63n, 0.5, "it's", 'é', Buffer.from([255]), new Date(0), new Decimal('1.5'), new Double(2), 2n ** 70n]
+const VALUES = [null, true, 7, 2n ** 63n, 0.5, "it's", 'é', Buffer.from([255]), new Date(0), new Decimal('1.5'), new Double(2),
+  2n ** 70n]
 const MORE = [...VALUES, [1, 'a', null], [[1, 2], [3, 'é']], new Identifier('a', 'b'), new Keyword('ASC', ['ASC'])]
 const MARKS = MORE.map(() => '?').join()
 const UTC = { timezone: 'Z' }

@@ -32,7 +32,8 @@ test('what the errors are', () => {
     assert.deepEqual([error.name, error.message, String(error), error.code], [Kind.name, 'text', `${Kind.name}: text`, 1])
     assert.ok(!Object.keys(error).includes('name'))
   }
-  assert.throws(() => mysqlParams.bind(':a', {}), (error) => /modules\.test\.js/.test(error.stack) && error.stack.startsWith('BindError: Missing named'))
+  assert.throws(() => mysqlParams.bind(':a', {}), (error) => /modules\.test\.js/.test(error.stack) &&
+    error.stack.startsWith('BindError: Missing named'))
 })
 
 test('workers at once', async () => {
@@ -69,10 +70,14 @@ test('calls of the addon with other arguments', () => {
   const { native } = require(path.join(FOLDER, 'lib/native.js'))
   const buffer = new ArrayBuffer(8)
   const calls = [
-    [native.bind], [native.bind, 0, '?'], [native.bind, 0, 5, buffer, 0, 0], [native.bind, 0, '?', {}, 0, 0], [native.bind, 16, '?', buffer, 0, 0],
-    [native.bind, 0, '?', buffer, 0, 9], [native.bind, 0, '?', buffer, 5, 4], [native.bind, 0, '?', buffer, -1, 4], [native.bind, 0, '?', buffer, 0, 'x'],
-    [native.bind, 'x', '?', buffer, 0, 0], [native.bindTemplate, 0, {}, buffer, 0, 0], [native.bindTemplate, 0, native, buffer, 0, 0],
-    [native.names, 0], [native.names, 0, null], [native.firstUnportable, 0, 1], [native.template, 16, 'x'], [native.constructMessage],
+    [native.bind], [native.bind, 0, '?'], [native.bind, 0, 5, buffer, 0, 0], [native.bind, 0, '?', {}, 0, 0], [native.bind, 16,
+      '?', buffer, 0, 0],
+    [native.bind, 0, '?', buffer, 0, 9], [native.bind, 0, '?', buffer, 5, 4], [native.bind, 0, '?', buffer, -1, 4],
+      [native.bind, 0, '?', buffer, 0, 'x'],
+    [native.bind, 'x', '?', buffer, 0, 0], [native.bindTemplate, 0, {}, buffer, 0, 0], [native.bindTemplate, 0, native, buffer,
+      0, 0],
+    [native.names, 0], [native.names, 0, null], [native.firstUnportable, 0, 1], [native.template, 16, 'x'],
+      [native.constructMessage],
     [native.bindRows, 0, '?', buffer, 0, 0, [], 'x'], [native.bindRows, 0, '?', buffer, 0, 0]
   ]
   for (const [call, ...given] of calls) assert.throws(() => call(...given), TypeError)

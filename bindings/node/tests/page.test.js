@@ -12,7 +12,8 @@ const { mysqlParams } = require('./shared_cases.js')
 const server = require('./server.js')
 
 const PAGE = fs.readFileSync(path.resolve(__dirname, '../../../packages/node.md'), 'utf8')
-const PROGRAMS = [...PAGE.matchAll(/^```js\n(.*?)^```\n\n```text\n(.*?)^```$/gms)].map(([, program, text]) => ({ program, text }))
+const BLOCKS = PAGE.matchAll(/^```js\n(.*?)^```\n\n```text\n(.*?)^```$/gms)
+const PROGRAMS = [...BLOCKS].map(([, program, text]) => ({ program, text }))
 
 let why = server.missing()
 try {
@@ -37,7 +38,8 @@ before(async () => {
       const made = mysql[name]
       mysql[name] = (options) => made({ ...options, ...here })
     }`)
-  if (why === null) spawnSync(process.execPath, ['-e', "require('mysql').createConnection({}).query('CREATE DATABASE shop', () => process.exit())"], run())
+  if (why === null) spawnSync(process.execPath, ['-e',
+    "require('mysql').createConnection({}).query('CREATE DATABASE shop', () => process.exit())"], run())
 }, { timeout: 120000 })
 
 after(async () => {
@@ -74,7 +76,11 @@ function rowsOf(head) {
   return rows.trim().split('\n').map((row) => row.split('|').slice(1, -1).map(plain))
 }
 
-const valueOf = (text) => vm.runInThisContext(`(names) => { const { Decimal, Double, Identifier, Keyword } = names; return (${text}) }`)(mysqlParams)
+/** The value of an example, which may name the classes of the package. */
+function valueOf(text) {
+  const program = `({ Decimal, Double, Identifier, Keyword }) => (${text})`
+  return vm.runInThisContext(program)(mysqlParams)
+}
 
 test('the table of what to write', () => {
   const rows = rowsOf('| You want | Query | Values | Text |')
@@ -98,7 +104,9 @@ test('the examples within the text', () => {
   assert.equal(bind("SELECT ':a', :a", { a: 1 }), "SELECT ':a', 1")
   for (const query of ['1?', '??', 'lbl:LOOP', 'x:a']) {
     assert.ok(PAGE.includes(`\`${query}\``))
-    assert.throws(() => bind(query, query.includes('?') ? query.split('').filter((letter) => letter === '?').map(() => 1) : { a: 1, LOOP: 1 }), { kind: 'NOT_ALONE' })
+    assert.throws(() => bind(query,
+      query.includes('?') ? query.split('').filter((letter) => letter === '?').map(() => 1) : { a: 1, LOOP: 1 }),
+      { kind: 'NOT_ALONE' })
   }
   assert.equal(bind('lbl: LOOP'), 'lbl: LOOP')
   assert.equal(bind(':user_id, :userId, :ID, :id', { user_id: 1, userId: 2, ID: 3, id: 4 }), '1, 2, 3, 4')

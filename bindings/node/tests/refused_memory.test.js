@@ -13,7 +13,8 @@ const made = new Template(':a, :B')
 const CALLS = {
   bind: () => bind(':a, :b, :a', { a: 1, b: "it's" }),
   'bind of a capital': () => bind(':A, :b', { A: 1, b: 2 }),
-  'many names': () => bind(Array.from({ length: 40 }, (_, i) => `:n${i}`).join(), Object.fromEntries(Array.from({ length: 40 }, (_, i) => [`n${i}`, i]))),
+  'many names': () => bind(Array.from({ length: 40 }, (_, i) => `:n${i}`).join(), Object.fromEntries(Array.from({ length: 40 },
+    (_, i) => [`n${i}`, i]))),
   'long text': () => bind('?', [LONG]),
   'long query': () => bind(`/*${LONG}*/ ?`, [1]),
   'long query of bytes': () => bind(Buffer.from(`/*${LONG}*/ ?`), [1]),

@@ -31,7 +31,8 @@ async function start() {
   const made = ['--no-defaults', ...user, `--datadir=${data}`, '--skip-test-db', '--auth-root-authentication-method=normal']
   execFileSync('mariadb-install-db', made, { env, stdio: 'ignore' })
   const words = ['--no-defaults', ...user, `--datadir=${data}`, `--socket=${socket}`, `--pid-file=${path.join(folder, 'pid')}`,
-    '--skip-networking', '--character-set-server=utf8mb4', '--innodb-buffer-pool-size=32M', '--innodb-flush-log-at-trx-commit=0']
+    '--skip-networking', '--character-set-server=utf8mb4', '--innodb-buffer-pool-size=32M',
+      '--innodb-flush-log-at-trx-commit=0']
   const server = spawn('mariadbd', words, { env, stdio: 'ignore' })
   const stop = async () => {
     const ended = new Promise((resolve) => server.once('exit', resolve))

@@ -19,8 +19,10 @@ try {
 const skip = why ?? false
 
 const HOSTILE = [
-  "x' OR '1'='1", "\\' OR 1=1 -- ", '\\', "'", '"', '`', "\\'", "''", '%s', '?', ':a', '??', '\0', '\n', '\r', '\x1a', '; DROP TABLE t; --',
-  '/* */', '/*! 1 */', '#', '-- ', "\\', 7 #", ', 7 #', "' UNION SELECT 7 -- ", 'é', '\u{1F600}', '縗', '\u00bf\\', '¿\'', '{ 7 }', '',
+  "x' OR '1'='1", "\\' OR 1=1 -- ", '\\', "'", '"', '`', "\\'", "''", '%s', '?', ':a', '??', '\0', '\n', '\r', '\x1a',
+    '; DROP TABLE t; --',
+  '/* */', '/*! 1 */', '#', '-- ', "\\', 7 #", ', 7 #', "' UNION SELECT 7 -- ", 'é', '\u{1F600}', '縗', '\u00bf\\', '¿\'',
+    '{ 7 }', '',
   `${"'".repeat(50)}${'\\'.repeat(51)}`, 'a'.repeat(70000), "it's", '\ufffd', '\u2028', 'NULL', '0', ' x '
 ]
 const MODES = ['STRICT_TRANS_TABLES', 'STRICT_TRANS_TABLES,NO_BACKSLASH_ESCAPES', 'ANSI_QUOTES', '']
@@ -45,7 +47,8 @@ before(async () => {
   running = await server.start()
   const connection = connect()
   await plain(connection, 'CREATE DATABASE d')
-  await plain(connection, 'CREATE TABLE d.t (id INT PRIMARY KEY AUTO_INCREMENT, a TEXT, b BLOB, c DECIMAL(30, 10), d DOUBLE, e DATETIME(3))')
+  await plain(connection,
+    'CREATE TABLE d.t (id INT PRIMARY KEY AUTO_INCREMENT, a TEXT, b BLOB, c DECIMAL(30, 10), d DOUBLE, e DATETIME(3))')
 }, { timeout: 120000 })
 
 after(async () => {
@@ -94,9 +97,12 @@ test('values of all kinds are stored as they are', { skip }, async () => {
   const values = { a: "it's \u{1F600}", b: bytes, c: new Decimal('12345678901234567890.0123456789'), d: 0.1, e: date }
   const done = await execute(connection, 'INSERT INTO t (a, b, c, d, e) VALUES (:a, :b, :c, :d, :e)', values, { timezone: 'Z' })
   assert.equal(done.affectedRows, 1)
-  const [[row]] = await query(connection, 'SELECT a, b, CAST(c AS CHAR) AS c, d, CAST(e AS CHAR) AS e FROM t WHERE id = :id', { id: done.insertId })
-  assert.deepEqual({ ...row }, { a: values.a, b: bytes, c: '12345678901234567890.0123456789', d: 0.1, e: '2019-11-27 12:30:05.007' })
-  const [[other]] = await query(connection, 'SELECT CAST(? AS CHAR) AS a, CAST(? AS CHAR) AS b, ? AS c, ? AS d, ? IS NULL AS e', [2n ** 64n - 1n, 2n ** 70n, true, new Double(2), null])
+  const [[row]] = await query(connection, 'SELECT a, b, CAST(c AS CHAR) AS c, d, CAST(e AS CHAR) AS e FROM t WHERE id = :id',
+    { id: done.insertId })
+  assert.deepEqual({ ...row }, { a: values.a, b: bytes, c: '12345678901234567890.0123456789', d: 0.1,
+    e: '2019-11-27 12:30:05.007' })
+  const [[other]] = await query(connection, 'SELECT CAST(? AS CHAR) AS a, CAST(? AS CHAR) AS b, ? AS c, ? AS d, ? IS NULL AS e',
+    [2n ** 64n - 1n, 2n ** 70n, true, new Double(2), null])
   assert.deepEqual({ ...other }, { a: '18446744073709551615', b: '1180591620717411303424', c: 1, d: 2, e: 1 })
 })
 
@@ -108,7 +114,8 @@ test('many rows, names and keywords', { skip }, async () => {
   const rows = HOSTILE.slice(0, 20).map((value, id) => [id, value])
   const done = await execute(connection, 'INSERT INTO :table (id, :column) VALUES :rows', { table, column, rows })
   assert.equal(done.affectedRows, rows.length)
-  const [found] = await query(connection, 'SELECT id, :column AS name FROM :table ORDER BY id :order', { table, column, order: new Keyword('DESC', ['ASC', 'DESC']) })
+  const [found] = await query(connection, 'SELECT id, :column AS name FROM :table ORDER BY id :order', { table, column,
+    order: new Keyword('DESC', ['ASC', 'DESC']) })
   assert.deepEqual(found.map(({ id, name }) => [id, name]).reverse(), rows)
 })
 
@@ -218,7 +225,8 @@ test('another character set is refused', { skip }, async () => {
   await assert.rejects(query(connection, 'SELECT ?', ['\u{1F600}']), { kind: 'SESSION', value: 'gbk' })
   await plain(connection, 'SET NAMES utf8mb4')
   await plain(connection, 'SET character_set_connection = latin1')
-  await assert.rejects(query(connection, 'SELECT 1'), { kind: 'SESSION', variable: 'character_set_connection', value: 'latin1' })
+  await assert.rejects(query(connection, 'SELECT 1'), { kind: 'SESSION', variable: 'character_set_connection',
+    value: 'latin1' })
   await plain(connection, 'SET NAMES utf8mb4')
   await query(connection, 'SELECT 1')
 })
@@ -228,7 +236,8 @@ test('refusals send nothing', { skip }, async () => {
   const { max_allowed_packet: packet } = (await plain(connection, 'SELECT @@max_allowed_packet AS max_allowed_packet'))[0]
   await query(connection, 'SELECT 1')
   const before = await asked(connection)
-  await assert.rejects(query(connection, 'SELECT /*! :a */ 1', { a: 1 }), { code: 16, construct: 'EXECUTABLE_COMMENT', position: 7 })
+  await assert.rejects(query(connection, 'SELECT /*! :a */ 1', { a: 1 }), { code: 16, construct: 'EXECUTABLE_COMMENT',
+    position: 7 })
   await assert.rejects(query(connection, 'SELECT :a', {}), { code: 9, placeName: 'a' })
   await assert.rejects(query(connection, 'SELECT :a', { a: undefined }), { name: 'TypeError' })
   await assert.rejects(query(connection, 'SELECT :a', { a: { b: 1 } }), { name: 'TypeError' })
@@ -249,7 +258,8 @@ test('what the driver itself would read in a text is refused', { skip }, async (
   const queryFormat = (sql, values) => (values ? sql.replace(/:(\w+)/g, (found, name) => values[name] ?? found) : sql)
   await assert.rejects(query(connect({ queryFormat }), 'SELECT ?', [1]), { name: 'TypeError', message: /has a queryFormat/ })
   for (const other of [null, undefined, {}, 'x', { query: 1 }]) {
-    await assert.rejects(query(other, 'SELECT 1'), { name: 'TypeError', message: 'a connection or a pool of mysql or mysql2 is wanted' })
+    await assert.rejects(query(other, 'SELECT 1'), { name: 'TypeError',
+      message: 'a connection or a pool of mysql or mysql2 is wanted' })
   }
   await assert.rejects(query(connect(), 'SELECT nothing FROM nowhere.t'), { code: 'ER_NO_SUCH_TABLE' })
   // Options of the connection leave the question's answer as it is.

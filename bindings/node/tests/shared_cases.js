@@ -114,7 +114,8 @@ class Case {
       case 'query': this.query = rest; break
       case 'row': this.rows.push((this.params = [])); break
       case 'param': this.params.push([rest.slice(0, rest.indexOf('=')), valueOf(rest.slice(rest.indexOf('=') + 1))]); break
-      case 'form': this.form = Buffer.concat([this.form ?? Buffer.alloc(0), Buffer.from(rest.replaceAll(' ', ''), 'hex')]); break
+      case 'form': this.form = Buffer.concat([this.form ?? Buffer.alloc(0), Buffer.from(rest.replaceAll(' ', ''),
+        'hex')]); break
       case 'text': this.texts.push(bytesOf(rest)); break
       case 'renamed': this.renamed = bytesOf(rest); break
       case 'name': this.names.push(rest); break

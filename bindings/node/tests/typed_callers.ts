@@ -1,13 +1,16 @@
 // Callers that TypeScript has to take, and those that it has to refuse.
 import mysqlParams = require('mysql-params')
-import { BindError, Decimal, Double, Identifier, Keyword, SessionError, Template, bind, bindAnywhere, bindInBothModes } from 'mysql-params'
+import { BindError, Decimal, Double, Identifier, Keyword, SessionError, Template, bind, bindAnywhere,
+  bindInBothModes } from 'mysql-params'
 import { askAgain, bindRows, execute, firstUnportable, names, query } from 'mysql-params'
 
 const text: string = bind('SELECT ?', [1])
 const bytes: Buffer = bind(Buffer.from('SELECT ?'), [1])
-const named: string = bindAnywhere('SELECT :a', { a: 'x', b: null, c: 1n, d: true, e: new Date(), f: Buffer.from('x') }, { timezone: 'Z' })
+const named: string = bindAnywhere('SELECT :a', { a: 'x', b: null, c: 1n, d: true, e: new Date(), f: Buffer.from('x') },
+  { timezone: 'Z' })
 const mapped: string = bind(':a', new Map([['a', 1]]))
-const lists: string = bind('? ? ? ?', [[1, 'a', new Decimal('1.5')], [[1, 'a'], [2, 'b']], new Identifier('a', 'b'), new Keyword('ASC', ['ASC'])])
+const lists: string = bind('? ? ? ?', [[1, 'a', new Decimal('1.5')], [[1, 'a'], [2, 'b']], new Identifier('a', 'b'),
+  new Keyword('ASC', ['ASC'])])
 const plain: string = bindInBothModes('?', [new Double(1)], { timezone: 'local' })
 const rows: string[] = bindRows('?', [[1], [2]], { noBackslashEscape: true })
 const template: string = new Template('?').bind([1])

@@ -45,7 +45,8 @@ function refusedEverywhere(value, Kind, said, options) {
 }
 
 test('numbers that are whole', () => {
-  for (const number of [0, 1, -1, 127, 128, 255, 256, 2 ** 31 - 1, 2 ** 31, -(2 ** 31), -(2 ** 31) - 1, 2 ** 32, 2 ** 53 - 1, 1 - 2 ** 53]) {
+  for (const number of [0, 1, -1, 127, 128, 255, 256, 2 ** 31 - 1, 2 ** 31, -(2 ** 31), -(2 ** 31) - 1, 2 ** 32, 2 ** 53 - 1,
+    1 - 2 ** 53]) {
     assert.equal(literal(number), String(number))
     assert.equal(bind('(?)', [[number, number]]), `(${number}, ${number})`)
     assert.equal(bindAnywhere(':a', { a: number }), String(number))
@@ -108,7 +109,8 @@ test('exact numbers', () => {
   assert.equal(literal(new Decimal(`${'1'.repeat(35)}.${'2'.repeat(30)}`)), `${'1'.repeat(35)}.${'2'.repeat(30)}`)
   refusedEverywhere(new Decimal('1'.repeat(66)), RangeError, 'has more than 65 digits, of which servers keep no more')
   for (const digits of ['', 'x', '1; DROP TABLE t', '0x1F', 'NaN', '1 2', '--1']) {
-    assert.throws(() => bind(':a', { a: new Decimal(digits) }), { name: 'BindError', code: 17, fault: 'NUMBER', placeName: 'a' })
+    assert.throws(() => bind(':a', { a: new Decimal(digits) }), { name: 'BindError', code: 17, fault: 'NUMBER',
+      placeName: 'a' })
   }
   for (const other of [1, 1.5, null, undefined, {}]) assert.throws(() => new Decimal(other), TypeError)
 })
@@ -120,7 +122,8 @@ test('texts', () => {
   assert.equal(bindAnywhere('?, ?', ['é', '\u{1F600}']), '_utf8mb4 0xC3A9, _utf8mb4 0xF09F9880')
   // Lengths about each width of a length, in letters of one to four bytes.
   for (const letter of ['a', 'é', '€', '\u{1F600}']) {
-    for (const count of [0, 1, 10, 39, 40, 41, 62, 63, 83, 84, 125, 126, 250, 251, 252, 16384, 21845, 21846, 65535, 65536, 5592405, 5592406]) {
+    for (const count of [0, 1, 10, 39, 40, 41, 62, 63, 83, 84, 125, 126, 250, 251, 252, 16384, 21845, 21846, 65535, 65536,
+      5592405, 5592406]) {
       const text = letter.repeat(count)
       assert.ok(literal(text) === `'${text}'`, `${letter} ${count}`)
     }
@@ -134,7 +137,8 @@ test('texts', () => {
 
 test('texts with a lone surrogate', () => {
   const said = 'is a string with a lone surrogate, which has no UTF-8'
-  for (const text of ['\ud800', 'a\udfffb', '\ude00\ud83d', `${'x'.repeat(100)}\udbff`, `\ufffd\ud800`]) refusedEverywhere(text, TypeError, said)
+  for (const text of ['\ud800', 'a\udfffb', '\ude00\ud83d', `${'x'.repeat(100)}\udbff`, `\ufffd\ud800`]) refusedEverywhere(text,
+    TypeError, said)
   assert.equal(literal('\ufffd'), "'\ufffd'")
   assert.equal(literal('\ud83d\ude00'), "'\u{1F600}'")
   for (const query of ['SELECT \ud800, ?', '\ufffd\udc00 ?']) {
@@ -152,12 +156,15 @@ test('texts with a lone surrogate', () => {
   assert.deepEqual(bindRows('"\ufffd", ?', [[1], [2]]), ['"\ufffd", 1', '"\ufffd", 2'])
   assert.equal(mysqlParams.names('"\ufffd", :a').query, '"\ufffd", ?')
   assert.equal(mysqlParams.firstUnportable('"\ufffd", :a'), null)
-  assert.throws(() => bind(':a', { a: 1, '\ud800': 1 }), { name: 'TypeError', message: 'a name of a parameter has a lone surrogate' })
-  assert.throws(() => bind('?', [new Identifier('a', '\ud800')]), { name: 'TypeError', message: /for place 0 is an Identifier with a lone/ })
+  assert.throws(() => bind(':a', { a: 1, '\ud800': 1 }), { name: 'TypeError',
+    message: 'a name of a parameter has a lone surrogate' })
+  assert.throws(() => bind('?', [new Identifier('a', '\ud800')]), { name: 'TypeError',
+    message: /for place 0 is an Identifier with a lone/ })
 })
 
 test('bytes', () => {
-  for (const bytes of [Buffer.from("a'b"), Uint8Array.from([97, 39, 98]), Uint8Array.from([120, 97, 39, 98, 120]).subarray(1, 4)]) {
+  for (const bytes of [Buffer.from("a'b"), Uint8Array.from([97, 39, 98]), Uint8Array.from([120, 97, 39, 98, 120]).subarray(1,
+    4)]) {
     assert.equal(literal(bytes), "'a\\'b'")
   }
   assert.equal(literal(Buffer.alloc(0)), "''")
@@ -169,9 +176,11 @@ test('bytes', () => {
     const isUtf8 = Buffer.from(bytes.toString()).equals(bytes)
     assert.equal(literal(bytes), isUtf8 ? `'${bytes}'` : `0x${hex.toUpperCase()}`, hex)
   }
-  for (const length of [250, 251, 65535, 65536, 100000]) assert.equal(literal(Buffer.alloc(length, 97)), `'${'a'.repeat(length)}'`)
+  for (const length of [250, 251, 65535, 65536, 100000]) assert.equal(literal(Buffer.alloc(length, 97)),
+    `'${'a'.repeat(length)}'`)
   assert.equal(literal(new Uint8Array(new SharedArrayBuffer(2)).fill(97)), "'aa'")
-  for (const [view, kind] of [[new Uint16Array(2), 'Uint16Array'], [new DataView(new ArrayBuffer(2)), 'DataView'], [new ArrayBuffer(2), 'ArrayBuffer'], [new Uint8ClampedArray(1), 'Uint8ClampedArray']]) {
+  for (const [view, kind] of [[new Uint16Array(2), 'Uint16Array'], [new DataView(new ArrayBuffer(2)), 'DataView'],
+    [new ArrayBuffer(2), 'ArrayBuffer'], [new Uint8ClampedArray(1), 'Uint8ClampedArray']]) {
     refusedEverywhere(view, TypeError, `is of type ${kind}, which has no literal: give a Buffer of its bytes`)
   }
 })
@@ -202,14 +211,16 @@ test('dates by the clock of a time zone', () => {
 test('dates that are refused', () => {
   const said = "is a Date: say by the option timezone which clock is written, 'Z', 'local' or an offset as '+02:00'"
   refusedEverywhere(new Date(), TypeError, said)
-  for (const timezone of ['Z', 'local', '+02:00']) refusedEverywhere(new Date(NaN), RangeError, 'is an invalid Date', { timezone })
+  for (const timezone of ['Z', 'local', '+02:00']) refusedEverywhere(new Date(NaN), RangeError, 'is an invalid Date',
+    { timezone })
   for (const year of [-1, 10000, 200000]) {
     const date = new Date(0)
     date.setUTCFullYear(year)
     refusedEverywhere(date, RangeError, 'is a Date outside of the years 0 to 9999', { timezone: 'Z' })
   }
   for (const timezone of ['', 'z', 'UTC', '+2:00', '+14:01', '+02:60', '02:00', '+02:00 ', 'Europe/Berlin', 0, null, 120]) {
-    assert.throws(() => bind('SELECT 1', [], { timezone }), { name: 'TypeError', message: "timezone is 'Z', 'local' or an offset as '+02:00'" })
+    assert.throws(() => bind('SELECT 1', [], { timezone }), { name: 'TypeError',
+      message: "timezone is 'Z', 'local' or an offset as '+02:00'" })
   }
 })
 
@@ -221,7 +232,8 @@ test('dates that the local clocks show twice', () => {
       const date = new Date(Date.UTC(2019, 9, 26, 22 + time, 30))
       try { console.log(bind('?', [date], { timezone: 'local' })) } catch (error) { console.log(error.name, error.message) }
     }`
-  const { stdout, stderr } = spawnSync(process.execPath, ['-e', program], { env: { ...process.env, TZ: 'Europe/Berlin' }, encoding: 'utf8' })
+  const { stdout, stderr } = spawnSync(process.execPath, ['-e', program], { env: { ...process.env, TZ: 'Europe/Berlin' },
+    encoding: 'utf8' })
   const twice =
     "RangeError the value for place 0 is a Date that the clocks of the local zone show twice: give timezone: 'Z', in a session whose time_zone is '+00:00'"
   assert.equal(stderr, '')
@@ -234,7 +246,8 @@ test('lists and rows', () => {
   assert.equal(bind('VALUES ?', [[[1, 'a'], [2, 'b']]]), "VALUES (1, 'a'), (2, 'b')")
   assert.equal(bindAnywhere('VALUES :rows', { rows: [[1, 'a']] }), "VALUES (1, _utf8mb4'a')")
   const fault = (value, name, inRow = 0) => {
-    assert.throws(() => bind(':a', { a: value }), { name: 'BindError', code: 17, kind: 'FAULT', fault: name, inRow, placeName: 'a' })
+    assert.throws(() => bind(':a', { a: value }), { name: 'BindError', code: 17, kind: 'FAULT', fault: name, inRow,
+      placeName: 'a' })
     assert.throws(() => bindAnywhere('?', [value]), { name: 'BindError', code: 17, fault: name, inRow, placeName: undefined })
   }
   fault([], 'EMPTY')
@@ -243,9 +256,12 @@ test('lists and rows', () => {
   fault([[1, 2], [3]], 'ROW_LENGTH', 1)
   fault([[1], [2], [3, 4]], 'ROW_LENGTH', 2)
   const mixed = 'give a list of values, or one of rows alone'
-  assert.throws(() => bind(':a', { a: [1, [2]] }), { name: 'TypeError', message: `item 1 of the value of \`:a\` is an array: ${mixed}` })
-  assert.throws(() => bind(':a', { a: [[1], 2] }), { name: 'TypeError', message: `row 1 of the value of \`:a\` is no array: ${mixed}` })
-  assert.throws(() => bind('?', [[[[1]]]]), { name: 'TypeError', message: /^item 0 of row 0 of the value for place 0 is an array/ })
+  assert.throws(() => bind(':a', { a: [1, [2]] }), { name: 'TypeError',
+    message: `item 1 of the value of \`:a\` is an array: ${mixed}` })
+  assert.throws(() => bind(':a', { a: [[1], 2] }), { name: 'TypeError',
+    message: `row 1 of the value of \`:a\` is no array: ${mixed}` })
+  assert.throws(() => bind('?', [[[[1]]]]), { name: 'TypeError',
+    message: /^item 0 of row 0 of the value for place 0 is an array/ })
   // eslint-disable-next-line no-sparse-arrays
   assert.throws(() => bind('?', [[1, , 2]]), { name: 'TypeError', message: /^item 1 of the value for place 0 is undefined/ })
 })
@@ -255,7 +271,8 @@ test('100,000 values', () => {
   assert.equal(bind('a IN (?)', [numbers]), `a IN (${numbers.join(', ')})`)
   assert.equal(bind(numbers.map(() => '?').join(), numbers), numbers.join())
   const texts = numbers.map((number) => `text ${number}`)
-  assert.equal(bindAnywhere('VALUES ?', [texts.map((text, i) => [i, text])]), `VALUES ${texts.map((text, i) => `(${i}, _utf8mb4'${text}')`).join(', ')}`)
+  const rows = texts.map((text, i) => `(${i}, _utf8mb4'${text}')`)
+  assert.equal(bindAnywhere('VALUES ?', [texts.map((text, i) => [i, text])]), `VALUES ${rows.join(', ')}`)
   const named = Object.fromEntries(texts.map((_, i) => [`n${i}`, i]))
   assert.equal(bind(texts.map((_, i) => `:n${i}`).join(), named), texts.map((_, i) => i).join())
   assert.deepEqual(bindRows('SELECT ?', numbers.map((number) => [number])), numbers.map((number) => `SELECT ${number}`))
@@ -271,14 +288,16 @@ test('identifiers and keywords', () => {
     assert.equal(new Keyword(word, KEYWORDS).word, word)
   }
   assert.equal(KEYWORDS.length, 33)
-  assert.throws(() => new Keyword('DROP', ['ASC', 'DESC']), { name: 'RangeError', message: '"DROP" is none of the keywords "ASC", "DESC"' })
+  assert.throws(() => new Keyword('DROP', ['ASC', 'DESC']), { name: 'RangeError',
+    message: '"DROP" is none of the keywords "ASC", "DESC"' })
   assert.throws(() => new Keyword('ASC', 'ASC'), TypeError)
   assert.throws(() => new Keyword(['ASC'], ['ASC']), TypeError)
   assert.throws(() => bind('?', [new Keyword('desc', ['desc'])]), { code: 17, fault: 'KEYWORD' })
   refusedItem(new Identifier('a'), TypeError, 'is an Identifier, which is no value: write a place for it')
   refusedItem(new Keyword('ASC', ['ASC']), TypeError, 'is a Keyword, which is no value: write a place for it')
   // What only looks like one is an object.
-  for (const like of [Object.create(Identifier.prototype), Object.create(Decimal.prototype), Object.create(Keyword.prototype)]) {
+  for (const like of [Object.create(Identifier.prototype), Object.create(Decimal.prototype),
+    Object.create(Keyword.prototype)]) {
     assert.throws(() => bind('?', [like]), { name: 'TypeError', message: /is an object, which has no literal/ })
   }
 })
@@ -287,16 +306,20 @@ test('what has no literal', () => {
   const json = 'is an object, which has no literal: give JSON.stringify(..) of it'
   refusedEverywhere(undefined, TypeError, 'is undefined: give null for NULL')
   refusedEverywhere({ password: 1 }, TypeError, json)
-  for (const value of [{}, Object.create(null), new Set([1]), new Map(), new Error('x'), /x/, { toString: () => '1' }]) refusedEverywhere(value, TypeError, json)
+  for (const value of [{}, Object.create(null), new Set([1]), new Map(), new Error('x'), /x/,
+    { toString: () => '1' }]) refusedEverywhere(value, TypeError, json)
   refusedEverywhere(Symbol('x'), TypeError, 'is a symbol, which has no literal')
   refusedEverywhere(() => 1, TypeError, 'is a function, which has no literal')
   refusedEverywhere(class {}, TypeError, 'is a function, which has no literal')
-  for (const value of [Object(1), Object('x'), Object(true), Object(1n)]) refusedEverywhere(value, TypeError, 'is an object around a value: give its valueOf()')
+  for (const value of [Object(1), Object('x'), Object(true), Object(1n)]) refusedEverywhere(value, TypeError,
+    'is an object around a value: give its valueOf()')
   refusedEverywhere(Promise.resolve(1), TypeError, 'is a Promise: await it')
   refusedEverywhere({ then() {} }, TypeError, 'is a Promise: await it')
-  refused({ toSqlString: () => '1 OR 1' }, TypeError, 'is an object with toSqlString: the words of a query stand in the query, so give an Identifier or a Keyword')
+  refused({ toSqlString: () => '1 OR 1' }, TypeError,
+    'is an object with toSqlString: the words of a query stand in the query, so give an Identifier or a Keyword')
   // node-mysql writes `password` = 1 for this one.
-  assert.throws(() => bind('SELECT * FROM u WHERE password = :password', { password: { password: 1 } }), { name: 'TypeError', message: `the value of \`:password\` ${json}` })
+  assert.throws(() => bind('SELECT * FROM u WHERE password = :password', { password: { password: 1 } }), { name: 'TypeError',
+    message: `the value of \`:password\` ${json}` })
 })
 
 test('both modes take only values', () => {
@@ -309,7 +332,8 @@ test('both modes take only values', () => {
     [new Keyword('ASC', ['ASC']), TypeError, 'is a Keyword, which is no value: write a place for it']
   ]
   for (const [value, Kind, said] of kinds) {
-    assert.throws(() => bindInBothModes(':a', { a: value }), (error) => error.constructor === Kind && error.message === `the value of \`:a\` ${said}`)
+    assert.throws(() => bindInBothModes(':a', { a: value }), (error) => error.constructor === Kind &&
+      error.message === `the value of \`:a\` ${said}`)
   }
   assert.throws(() => bindInBothModes(':a', { a: 0.5 }), { code: 14, placeName: 'a' })
 })
@@ -331,12 +355,15 @@ test('parameters', () => {
   assert.throws(() => bind(':__proto__', { ['a']: 1, __proto__: null }), { code: 9, placeName: '__proto__' })
   assert.equal(bind(':__proto__, :constructor', JSON.parse('{"__proto__": 1, "constructor": 2}')), '1, 2')
   const wanted = /^parameters are an array, an object of names, or a Map, and not /
-  for (const params of ['x', 1, 1n, true, Symbol('x'), () => 1, Buffer.from('x'), new Date(), new Set(), /x/, new Uint16Array(1), [1].values(), Promise.resolve({})]) {
+  for (const params of ['x', 1, 1n, true, Symbol('x'), () => 1, Buffer.from('x'), new Date(), new Set(), /x/,
+    new Uint16Array(1), [1].values(), Promise.resolve({})]) {
     assert.throws(() => bind('?', params), (error) => error instanceof TypeError && wanted.test(error.message))
   }
   assert.throws(() => bind(':a', { '': 1 }), { name: 'RangeError', message: 'a parameter has an empty name' })
-  assert.throws(() => bind(':a', new Map([[1, 1]])), { name: 'TypeError', message: 'a name is a string, and not of type number' })
-  assert.throws(() => bind(':a', { a: 1, größe: undefined }), { message: 'the value of `:gr\\xc3\\xb6\\xc3\\x9fe` is undefined: give null for NULL' })
+  assert.throws(() => bind(':a', new Map([[1, 1]])), { name: 'TypeError',
+    message: 'a name is a string, and not of type number' })
+  assert.throws(() => bind(':a', { a: 1, größe: undefined }),
+    { message: 'the value of `:gr\\xc3\\xb6\\xc3\\x9fe` is undefined: give null for NULL' })
   const long = 'n'.repeat(300)
   assert.equal(bind(`:${long}`, { [long]: 1, größe: 2 }), '1')
 })
@@ -360,15 +387,20 @@ test('getters that bind', () => {
 
 test('options and queries', () => {
   const known = 'the options are noBackslashEscape, timezone'
-  assert.throws(() => bind('?', [1], { no_backslash_escape: true }), { name: 'TypeError', message: `there is no option "no_backslash_escape": ${known}` })
-  for (const mode of [1, 0, 'true', null, 'NO_BACKSLASH_ESCAPES']) assert.throws(() => bind('?', [1], { noBackslashEscape: mode }), TypeError)
+  assert.throws(() => bind('?', [1], { no_backslash_escape: true }), { name: 'TypeError',
+    message: `there is no option "no_backslash_escape": ${known}` })
+  for (const mode of [1, 0, 'true', null, 'NO_BACKSLASH_ESCAPES']) assert.throws(() => bind('?', [1],
+    { noBackslashEscape: mode }), TypeError)
   for (const options of [true, null, 'Z', [], 1]) {
-    for (const call of [bind, bindAnywhere, bindInBothModes]) assert.throws(() => call('?', [1], options), { name: 'TypeError', message: /^options are an object/ })
+    for (const call of [bind, bindAnywhere, bindInBothModes]) assert.throws(() => call('?', [1], options), { name: 'TypeError',
+      message: /^options are an object/ })
   }
   // A call without a mode has no option for one.
-  for (const call of [bindAnywhere, bindInBothModes]) assert.throws(() => call('?', [1], { noBackslashEscape: true }), TypeError)
+  for (const call of [bindAnywhere, bindInBothModes]) assert.throws(() => call('?', [1], { noBackslashEscape: true }),
+    TypeError)
   for (const query of [undefined, null, 1, {}, [], ['?'], new Uint16Array(2), Object('?'), { sql: '?' }]) {
-    for (const call of [() => bind(query, [1]), () => bindAnywhere(query), () => mysqlParams.names(query), () => mysqlParams.firstUnportable(query), () => new mysqlParams.Template(query), () => bindRows(query, [])]) {
+    for (const call of [() => bind(query, [1]), () => bindAnywhere(query), () => mysqlParams.names(query),
+      () => mysqlParams.firstUnportable(query), () => new mysqlParams.Template(query), () => bindRows(query, [])]) {
       assert.throws(call, { name: 'TypeError', message: /^a query is a string or a Uint8Array, and not / })
     }
   }
@@ -386,7 +418,8 @@ test('options and queries', () => {
 })
 
 test('rows of all kinds', () => {
-  const rows = [[1, 'a'], [new Decimal('0.10'), 2n ** 70n], [Buffer.from([255]), null], [new Identifier('a`'), [1, 2]], [0.25, 'a'], [[1, -0.5], 3]]
+  const rows = [[1, 'a'], [new Decimal('0.10'), 2n ** 70n], [Buffer.from([255]), null], [new Identifier('a`'), [1, 2]], [0.25,
+    'a'], [[1, -0.5], 3]]
   const texts = ["1, 'a'", '0.10, 1180591620717411303424', '0xFF, NULL', '`a```, 1, 2', "0.25e0, 'a'", '1, -0.5e0, 3']
   assert.deepEqual(bindRows('SELECT ?, ?', rows), texts.map((text) => `SELECT ${text}`))
   assert.deepEqual(bindRows(Buffer.from('?, ?'), rows), texts.map((text) => Buffer.from(text)))
@@ -398,7 +431,8 @@ test('rows of all kinds', () => {
   const many = bindRows(':a', generated())
   assert.deepEqual(many, Array.from({ length: 3000 }, (_, i) => (i % 500 === 499 ? '0.5e0' : String(i))))
   // The row that is refused, with the texts before it, also within a batch and before a value that is refused.
-  for (const [bad, check] of [[[1, 2], { code: 12 }], [[[]], { code: 17 }], [[undefined], { name: 'TypeError' }], [[NaN], { code: 14 }]]) {
+  for (const [bad, check] of [[[1, 2], { code: 12 }], [[[]], { code: 17 }], [[undefined], { name: 'TypeError' }], [[NaN],
+    { code: 14 }]]) {
     for (const row of [0, 1, 2, 700]) {
       const given = Array.from({ length: row }, (_, i) => [i]).concat([bad, [undefined]])
       assert.throws(() => bindRows('?', given), (error) => {
@@ -410,7 +444,8 @@ test('rows of all kinds', () => {
       })
     }
   }
-  for (const rows of [undefined, null, 1, {}, 'ab']) assert.throws(() => bindRows('?', rows), { name: 'TypeError', message: /^rows are an array/ })
+  for (const rows of [undefined, null, 1, {}, 'ab']) assert.throws(() => bindRows('?', rows), { name: 'TypeError',
+    message: /^rows are an array/ })
   const ends = (function * () {
     yield [1]
     throw new Error('of the rows')
