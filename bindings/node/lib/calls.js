@@ -19,15 +19,22 @@ function kindOf(query) {
   throw new TypeError(`a query is a string or a Uint8Array, and not ${kind === 'object' ? 'an object' : kind}`)
 }
 
-/** Throws for options that a call doesn't have: one that is misspelt would be another mode without a word. */
-function judgeOptions(options, known) {
+/**
+ * Returns the options that a call has, by an object of its own properties alone. Throws for another option: one that is misspelt
+ * would be another mode without a word.
+ */
+function optionsOf(options, known) {
   if (typeof options !== 'object' || options === null || Array.isArray(options)) {
     throw new TypeError(`options are an object, as { ${known[0]}: .. }, and not ${options === null ? 'null' : typeof options}`)
   }
+  const own = Object.create(null)
   for (const name of Object.keys(options)) {
-    if (known.includes(name)) continue
-    throw new TypeError(`there is no option ${JSON.stringify(name)}: the options are ${known.join(', ')}`)
+    if (!known.includes(name)) {
+      throw new TypeError(`there is no option ${JSON.stringify(name)}: the options are ${known.join(', ')}`)
+    }
+    own[name] = options[name]
   }
+  return own
 }
 
 /** The bit of the mode that options say. */
@@ -66,15 +73,15 @@ const OF_QUERY = ['noBackslashEscape']
 
 function bind(query, params, options) {
   if (options === undefined) return bound(BIND | kindOf(query), query, params, undefined)
-  judgeOptions(options, OF_MODE)
-  return bound(BIND | kindOf(query) | modeOf(options), query, params, dates.zoneOf(options.timezone))
+  const own = optionsOf(options, OF_MODE)
+  return bound(BIND | kindOf(query) | modeOf(own), query, params, dates.zoneOf(own.timezone))
 }
 
 /** A call without a mode. */
 function steady(call, query, params, options) {
   if (options === undefined) return bound(call | kindOf(query), query, params, undefined)
-  judgeOptions(options, OF_ZONE)
-  return bound(call | kindOf(query), query, params, dates.zoneOf(options.timezone))
+  const own = optionsOf(options, OF_ZONE)
+  return bound(call | kindOf(query), query, params, dates.zoneOf(own.timezone))
 }
 
 function bindAnywhere(query, params, options) {
@@ -108,8 +115,7 @@ function boundWritten(flags, query, written) {
 }
 
 function bindForm(query, form, options = {}) {
-  judgeOptions(options, OF_QUERY)
-  return boundForm(BIND | kindOf(query) | modeOf(options), query, form)
+  return boundForm(BIND | kindOf(query) | modeOf(optionsOf(options, OF_QUERY)), query, form)
 }
 
 function bindFormAnywhere(query, form) {
@@ -121,16 +127,14 @@ function bindFormInBothModes(query, form) {
 }
 
 function names(query, options = {}) {
-  judgeOptions(options, OF_QUERY)
-  const flags = kindOf(query) | modeOf(options)
+  const flags = kindOf(query) | modeOf(optionsOf(options, OF_QUERY))
   const [renamed, ...found] = asked((more) => native.names(more, query), flags, query)
   return { query: renamed, names: found }
 }
 
 /** The first construct of a query, or null. */
 function firstOf(query, options, more) {
-  judgeOptions(options, OF_QUERY)
-  const flags = kindOf(query) | modeOf(options) | more
+  const flags = kindOf(query) | modeOf(optionsOf(options, OF_QUERY)) | more
   let told = native.firstUnportable(flags, query)
   if (told === undefined) {
     judgeQuery(query)
@@ -164,9 +168,9 @@ module.exports = {
   boundWritten,
   firstUnportable,
   firstUnportableInClient,
-  judgeOptions,
   kindOf,
   modeOf,
   names,
+  optionsOf,
   withForm
 }

@@ -91,7 +91,7 @@ class Keyword {
     }
     if (!among.includes(word)) {
       const several = among.map((other) => JSON.stringify(other)).join(', ')
-      throw new RangeError(`${JSON.stringify(word)} is none of the keywords ${several}`)
+      throw new RangeError(`the word is none of the keywords ${several}`)
     }
     this.#word = word
   }

@@ -99,8 +99,8 @@ function boundRows(flags, query, rows, zone) {
 }
 
 function bindRows(query, rows, options = {}) {
-  calls.judgeOptions(options, calls.OF_MODE)
-  return boundRows(BIND | calls.kindOf(query) | calls.modeOf(options), query, rows, dates.zoneOf(options.timezone))
+  const own = calls.optionsOf(options, calls.OF_MODE)
+  return boundRows(BIND | calls.kindOf(query) | calls.modeOf(own), query, rows, dates.zoneOf(own.timezone))
 }
 
 module.exports = { bindRows, boundRows }

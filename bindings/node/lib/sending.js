@@ -187,14 +187,20 @@ function sendOver(connection, query, written, always, done) {
   })
 }
 
+/** Whether a connection is to be asked before each text. */
+function isAlways(alwaysAsk) {
+  if (alwaysAsk === undefined || alwaysAsk === true || alwaysAsk === false) return alwaysAsk === true
+  throw new TypeError('alwaysAsk is true or false')
+}
+
 /** Sends over a connection, or one of a pool, which gets it back. */
 function send(given, query, params, options, done) {
-  calls.judgeOptions(options, OPTIONS)
+  const own = calls.optionsOf(options, OPTIONS)
   if (typeof query !== 'string') throw new TypeError('a query that is sent is a string')
   judgeQuery(query)
   const core = coreOf(given)
-  const written = writtenOf(params, dates.zoneOf(options.timezone))
-  const always = options.alwaysAsk === true
+  const written = writtenOf(params, dates.zoneOf(own.timezone))
+  const always = isAlways(own.alwaysAsk)
   if (typeof core.getConnection !== 'function') {
     sendOver(core, query, written, always, done)
     return

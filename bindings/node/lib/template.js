@@ -13,8 +13,7 @@ class Template {
   #flags
 
   constructor(query, options = {}) {
-    calls.judgeOptions(options, calls.OF_QUERY)
-    this.#flags = BIND | calls.kindOf(query) | calls.modeOf(options)
+    this.#flags = BIND | calls.kindOf(query) | calls.modeOf(calls.optionsOf(options, calls.OF_QUERY))
     this.#kept = new Kept(typeof query === 'string' ? query : Buffer.from(query), this.#flags)
   }
 
@@ -31,8 +30,8 @@ class Template {
 
   bind(params, options) {
     if (options === undefined) return this.#kept.bind(this.#flags, params, undefined, true)
-    calls.judgeOptions(options, calls.OF_ZONE)
-    return this.#kept.bind(this.#flags, params, dates.zoneOf(options.timezone), true)
+    const own = calls.optionsOf(options, calls.OF_ZONE)
+    return this.#kept.bind(this.#flags, params, dates.zoneOf(own.timezone), true)
   }
 
   bindForm(form) {
@@ -40,8 +39,8 @@ class Template {
   }
 
   bindRows(rows, options = {}) {
-    calls.judgeOptions(options, calls.OF_ZONE)
-    return boundRows(this.#flags, this.#kept.query, rows, dates.zoneOf(options.timezone))
+    const own = calls.optionsOf(options, calls.OF_ZONE)
+    return boundRows(this.#flags, this.#kept.query, rows, dates.zoneOf(own.timezone))
   }
 }
 

@@ -81,6 +81,7 @@ test('it is asked again', async () => {
   assert.deepEqual(connection.sent, [escaped, plain, escaped, plain, "SET sql_mode = ''", escaped])
   assert.equal(connection.asked, 5)
   askAgain(new Connection()) // It wasn't asked yet.
+  await assert.rejects(query(connection, 'SELECT 1', [], { alwaysAsk: 1 }), { name: 'TypeError', message: 'alwaysAsk is true or false' })
 })
 
 test('it is asked again while a question is under way', async () => {

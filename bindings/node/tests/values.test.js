@@ -289,7 +289,7 @@ test('identifiers and keywords', () => {
   }
   assert.equal(KEYWORDS.length, 33)
   assert.throws(() => new Keyword('DROP', ['ASC', 'DESC']), { name: 'RangeError',
-    message: '"DROP" is none of the keywords "ASC", "DESC"' })
+    message: 'the word is none of the keywords "ASC", "DESC"' })
   assert.throws(() => new Keyword('ASC', 'ASC'), TypeError)
   assert.throws(() => new Keyword(['ASC'], ['ASC']), TypeError)
   assert.throws(() => bind('?', [new Keyword('desc', ['desc'])]), { code: 17, fault: 'KEYWORD' })
@@ -394,6 +394,16 @@ test('options and queries', () => {
   for (const options of [true, null, 'Z', [], 1]) {
     for (const call of [bind, bindAnywhere, bindInBothModes]) assert.throws(() => call('?', [1], options), { name: 'TypeError',
       message: /^options are an object/ })
+  }
+  // Only own properties are options.
+  // eslint-disable-next-line no-extend-native
+  Object.prototype.noBackslashEscape = true
+  try {
+    for (const options of [undefined, {}, { timezone: 'Z' }]) assert.equal(bind('?', ['\\'], options), "'\\\\'")
+    assert.deepEqual(bindRows('?', [['\\']]), ["'\\\\'"])
+    assert.equal(new mysqlParams.Template('?').noBackslashEscape, false)
+  } finally {
+    delete Object.prototype.noBackslashEscape
   }
   // A call without a mode has no option for one.
   for (const call of [bindAnywhere, bindInBothModes]) assert.throws(() => call('?', [1], { noBackslashEscape: true }),
