@@ -48,7 +48,7 @@ function modeOf(options) {
 /** The text of a query and a form that is written. */
 function textOf(flags, query, form) {
   const all = form.isFragments ? flags | FRAGMENTS : flags
-  const { buffer } = form.bytes
+  const { buffer } = form
   const told = native.bind(all, query, buffer, 0, form.len)
   if (typeof told === 'string' || isUint8Array(told)) return told
   return asked((more) => (more === all ? told : native.bind(more, query, buffer, 0, form.len)), all, query)

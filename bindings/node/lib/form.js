@@ -96,6 +96,7 @@ class Form {
 
   hold(bytes) {
     this.bytes = bytes
+    this.buffer = bytes.buffer
     this.view = new DataView(bytes.buffer)
     this.size = bytes.length
   }
@@ -389,34 +390,67 @@ function writeObject(form, params) {
 }
 
 /**
- * Appends the values of an object in the order of the places of their names, without the names. False, after any bytes, unless it
- * has just these names, and each value can be written.
+ * Appends the values of an object without their names, which stand in the order of the places. False, after any bytes, unless they
+ * are just these names in this order, and each value can be written.
  */
-function writeInPlaces(form, params, names, places) {
-  if (typeof params !== 'object' || params === null) return false
-  const prototype = Object.getPrototypeOf(params)
-  if (prototype !== Object.prototype && prototype !== null) return false
-  const values = new Array(names.length)
+function writeOrdered(form, params, names) {
+  let { bytes, len, size } = form
   let count = 0
-  let next = 0
   for (const name in params) {
     if (!isOwn.call(params, name)) continue
-    const place = name === names[next] ? next : places.get(name)
+    if (name !== names[count]) return false
+    const value = params[name]
+    if (len + 1 + MOST_SHORT > size) {
+      form.len = len
+      form.grow(1 + MOST_SHORT)
+      bytes = form.bytes
+      size = form.size
+    }
+    bytes[len] = 0
+    const end = putCommon(bytes, len + 1, value)
+    if (end < 0) {
+      form.len = len + 1
+      if (!canWrite(form, value, count)) return false
+      bytes = form.bytes
+      size = form.size
+    }
+    len = end < 0 ? form.len : end
+    count++
+  }
+  form.len = len
+  return count === names.length
+}
+
+/** The same of names in any order, of which each stands in one place. */
+function writeInPlaces(form, params, names, places) {
+  const values = new Array(names.length)
+  let count = 0
+  for (const name in params) {
+    if (!isOwn.call(params, name)) continue
+    const place = places.get(name)
     if (place === undefined) return false
     values[place] = params[name]
-    next = place + 1
     count++
   }
   if (count !== names.length) return false
   for (let i = 0; i < count; i++) {
-    if (form.len + 1 + MOST_SHORT > form.size) form.grow(1 + MOST_SHORT)
-    const { bytes, len } = form
-    bytes[len] = 0
-    const end = putCommon(bytes, len + 1, values[i])
-    form.len = end < 0 ? len + 1 : end
-    if (end < 0 && !canWrite(form, values[i], i)) return false
+    if (form.len + 1 > form.size) form.grow(1)
+    form.bytes[form.len++] = 0
+    if (!canWrite(form, values[i], i)) return false
   }
   return true
+}
+
+/** Appends the values of a plain object to the places of their names, without the names; false as the two above. */
+function writeWithoutNames(form, params, names, places) {
+  if (typeof params !== 'object' || params === null) return false
+  const prototype = Object.getPrototypeOf(params)
+  if (prototype !== Object.prototype && prototype !== null) return false
+  const begin = form.len
+  if (writeOrdered(form, params, names)) return true
+  form.len = begin
+  form.isFragments = false
+  return writeInPlaces(form, params, names, places)
 }
 
 /** Appends what stands in a place. False if it is refused, without a word of why. */
@@ -487,4 +521,4 @@ function giveForm(form) {
   waiting = form.size <= KEPT ? form : new Form(1 << 16)
 }
 
-module.exports = { Form, giveForm, isWellFormed, takeForm, writeInPlaces, writeParams }
+module.exports = { Form, giveForm, isWellFormed, takeForm, writeParams, writeWithoutNames }

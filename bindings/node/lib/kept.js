@@ -3,7 +3,7 @@
 
 const { isUint8Array } = require('node:util/types')
 const { BYTES, CHECKED, FRAGMENTS, MODE, native } = require('./native.js')
-const { giveForm, takeForm, writeInPlaces, writeParams } = require('./form.js')
+const { giveForm, takeForm, writeParams, writeWithoutNames } = require('./form.js')
 const { asked } = require('./asked.js')
 
 /**
@@ -29,7 +29,7 @@ class Kept {
 
   /** What the addon tells of a form that is written. */
   told(flags, made, form) {
-    return native.bindTemplate(form.isFragments ? flags | FRAGMENTS : flags, made, form.bytes.buffer, 0, form.len)
+    return native.bindTemplate(form.isFragments ? flags | FRAGMENTS : flags, made, form.buffer, 0, form.len)
   }
 
   textOf(flags, form) {
@@ -39,7 +39,7 @@ class Kept {
   bind(flags, params, zone, takesMore) {
     const form = takeForm(zone, takesMore)
     try {
-      if (this.marked !== null && writeInPlaces(form, params, this.names, this.places)) {
+      if (this.marked !== null && writeWithoutNames(form, params, this.names, this.places)) {
         const told = this.told(flags, this.marked, form)
         if (typeof told === 'string' || isUint8Array(told)) return told
       }

@@ -35,7 +35,7 @@ class Rows {
     if (end === 0) return
     const { flags, form, query, texts } = this
     try {
-      asked((all) => native.bindRows(all, query, form.bytes.buffer, 0, end, texts, texts.length), flags, query)
+      asked((all) => native.bindRows(all, query, form.buffer, 0, end, texts, texts.length), flags, query)
     } catch (fault) {
       throw tell(fault, texts.length, texts)
     }
@@ -44,7 +44,7 @@ class Rows {
   /** Binds a row with more than values by itself, whose form begins at a byte. */
   bindAlone(begin) {
     const { flags, form, query, texts } = this
-    const ask = (all) => native.bind(all, query, form.bytes.buffer, begin, form.len)
+    const ask = (all) => native.bind(all, query, form.buffer, begin, form.len)
     try {
       texts.push(asked(ask, flags | FRAGMENTS, query))
     } catch (fault) {

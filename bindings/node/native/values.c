@@ -151,12 +151,18 @@ void give_query_back(query *taken)
     taken->own = NULL;
 }
 
+/* Looks at eight bytes at once. */
 static bool is_ascii(const uint8_t *bytes, size_t len)
 {
-    uint8_t found = 0;
-    for (size_t i = 0; i < len; i++)
+    uint64_t found = 0, eight;
+    size_t i = 0;
+    for (; i + sizeof eight <= len; i += sizeof eight) {
+        memcpy(&eight, bytes + i, sizeof eight);
+        found |= eight;
+    }
+    for (; i < len; i++)
         found |= bytes[i];
-    return found < 128;
+    return (found & 0x8080808080808080) == 0;
 }
 
 napi_value text_of(napi_env env, uint32_t flags, const uint8_t *bytes, size_t len)
