@@ -29,7 +29,12 @@ async function start() {
   if (user.length > 0) execFileSync('chown', ['nobody', folder])
   const env = { ...process.env, PATH }
   const made = ['--no-defaults', ...user, `--datadir=${data}`, '--skip-test-db', '--auth-root-authentication-method=normal']
-  execFileSync('mariadb-install-db', made, { env, stdio: 'ignore' })
+  try {
+    execFileSync('mariadb-install-db', made, { env, encoding: 'utf8', stdio: 'pipe' })
+  } catch (fault) {
+    fs.rmSync(folder, { recursive: true, force: true })
+    throw new Error(`mariadb-install-db: ${fault.stdout}${fault.stderr}`)
+  }
   const words = ['--no-defaults', ...user, `--datadir=${data}`, `--socket=${socket}`, `--pid-file=${path.join(folder, 'pid')}`,
     '--skip-networking', '--character-set-server=utf8mb4', '--innodb-buffer-pool-size=32M',
       '--innodb-flush-log-at-trx-commit=0']
