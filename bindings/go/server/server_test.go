@@ -330,6 +330,10 @@ func TestPool(t *testing.T) {
 		}(worker)
 	}
 	group.Wait()
+	// A connection that was asked is given back once its rows are closed, by a goroutine.
+	for waited := 0; waited < 500 && db.Stats().InUse > 0; waited++ {
+		time.Sleep(10 * time.Millisecond)
+	}
 	if !reflect.DeepEqual(seen, map[any]bool{"0": true, "1": true}) || db.Stats().InUse != 0 {
 		t.Error(seen, db.Stats().InUse)
 	}
