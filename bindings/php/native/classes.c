@@ -164,7 +164,7 @@ PHP_METHOD(MysqlParams_Identifier, __construct)
     }
     array_init_size(&kept, count);
     for (uint32_t i = 0; i < count; i++) {
-        Z_ADDREF_P(&parts[i]);
+        Z_TRY_ADDREF(parts[i]);
         zend_hash_next_index_insert(Z_ARRVAL(kept), &parts[i]);
     }
     set_readonly(Z_OBJ_P(ZEND_THIS), "parts", &kept);

@@ -428,6 +428,8 @@ static void return_changed(zend_object *mysqli, zval *result, zval *return_value
     if (Z_TYPE_P(result) == IS_FALSE)
         RETURN_FALSE;
     zval *changed = zend_read_property(mysqli->ce, mysqli, "affected_rows", sizeof "affected_rows" - 1, 1, &held);
+    if (changed == &held)
+        RETURN_COPY_VALUE(changed);
     RETURN_COPY(changed);
 }
 
