@@ -232,6 +232,18 @@ func TestStored(t *testing.T) {
 	}
 }
 
+// TestFirstCall sends by the call of the repository's first page.
+func TestFirstCall(t *testing.T) {
+	ctx, db := context.Background(), open(t, nil, false)
+	rows, err := mysqlparams.QueryContext(ctx, db, "SELECT ?", 42)
+	check(t, err)
+	defer rows.Close()
+	var found int
+	if !rows.Next() || rows.Scan(&found) != nil || found != 42 {
+		t.Error(found, rows.Err())
+	}
+}
+
 // TestOtherCharacterSets has a session refused, and texts for any connection right all the same.
 func TestOtherCharacterSets(t *testing.T) {
 	for _, charset := range []string{"gbk", "latin1", "sjis", "utf8mb3"} {

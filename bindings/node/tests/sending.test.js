@@ -46,6 +46,12 @@ test('a connection is asked once', async () => {
   assert.equal(connection.asked, 1)
 })
 
+test('the call of the first page', async () => {
+  const connection = new Connection()
+  await query(connection, 'SELECT :id', { id: 42 })
+  assert.deepEqual(connection.sent, ['SELECT 42'])
+})
+
 test('calls at once ask once', async () => {
   const connection = new Connection()
   await Promise.all([1, 2, 3].map((id) => query(connection, 'SELECT :id', { id })))

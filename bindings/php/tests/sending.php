@@ -449,6 +449,11 @@ test('a text of the longest packet, and one that is longer', function () {
     }
 });
 
+test('the call of the first page', function () {
+    $pdo = pdo();
+    same(42, (int) \MysqlParams\query($pdo, 'SELECT :id', ['id' => 42])->fetchColumn());
+});
+
 test("a driver's own refusals", function () {
     holds(thrown(fn () => query(pdo(), 'SELECT FROM :a', ['a' => 1])) instanceof \PDOException);
     holds(thrown(fn () => query(mysqli(), 'SELECT FROM :a', ['a' => 1])) instanceof \mysqli_sql_exception);
