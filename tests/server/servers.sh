@@ -7,7 +7,7 @@
 #
 # A function that fails has said why in $why.
 
-quick='-o Acquire::Retries=0 -o Acquire::http::Timeout=20 -o Acquire::https::Timeout=20'
+quick='-o Acquire::Retries=0 -o Acquire::http::Timeout=20 -o Acquire::https::Timeout=20 -o DPkg::Lock::Timeout=120'
 
 is_root() {
     [ "$(id -u)" -eq 0 ]
