@@ -5,8 +5,8 @@
  *
  * Parameters are a list, for `?`, or have names, for `:name`. A value is null, a bool, an int, a float, a string, a
  * DateTimeInterface, a DateInterval of a known length, or a case of an enum with values. Where a place takes more, it is also a
- * list of values, a list of lists as rows, a Decimal, an Identifier or a Keyword. Anything else is a TypeError, which tells the
- * place.
+ * list of values, a list of lists as rows, a Decimal, an Identifier or a list of them, Assignments or a Keyword. Anything
+ * else is a TypeError, which tells the place.
  *
  * `$no_backslash_escape` says whether the connection's `@@sql_mode` has NO_BACKSLASH_ESCAPES. It is true or false: anything
  * else is a TypeError.
@@ -197,13 +197,37 @@ final class Decimal implements \Stringable
     }
 }
 
-/** The name of a table or a column, which may come from outside; `new Identifier('shop', 'item')` is one in another. */
+/**
+ * The name of a table or a column, which may come from outside; `new Identifier('shop', 'item')` is one in another. A list of
+ * them is written with commas in between.
+ */
 final class Identifier
 {
     /** @var list<string> */
     public readonly array $parts;
 
     public function __construct(string ...$parts)
+    {
+    }
+}
+
+/**
+ * Columns and what they are set to, for `SET ?`: `new Assignments(['price' => 7, 'sold' => null])`. Take only columns of yours,
+ * since an array from outside may have any.
+ */
+final class Assignments
+{
+    /** @var list<array{Identifier, mixed}> */
+    public readonly array $pairs;
+
+    /**
+     * A key is the name of a column. Give pairs for a column in a table, as `[[new Identifier('item', 'sold'), null]]`, and for
+     * one whose name is a whole number, since PHP makes an int of such a key. What a column is set to is as in a list of values.
+     *
+     * @param array<string, mixed>|list<array{string|Identifier, mixed}> $assigned
+     * @throws \TypeError for other keys, and for what is no pair
+     */
+    public function __construct(array $assigned)
     {
     }
 }

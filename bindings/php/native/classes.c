@@ -7,7 +7,7 @@
 #include "Zend/zend_smart_str.h"
 #include "ext/spl/spl_exceptions.h"
 
-zend_class_entry *template_ce, *decimal_ce, *identifier_ce, *keyword_ce, *names_ce;
+zend_class_entry *template_ce, *decimal_ce, *identifier_ce, *assignments_ce, *keyword_ce, *names_ce;
 
 static zend_object_handlers template_handlers;
 
@@ -171,6 +171,83 @@ PHP_METHOD(MysqlParams_Identifier, __construct)
     zval_ptr_dtor(&kept);
 }
 
+/* Makes an Identifier of one name. */
+static void make_identifier(zval *made, zend_string *name)
+{
+    zval parts;
+    object_init_ex(made, identifier_ce);
+    array_init_size(&parts, 1);
+    add_next_index_str(&parts, zend_string_copy(name));
+    set_readonly(Z_OBJ_P(made), "parts", &parts);
+    zval_ptr_dtor(&parts);
+}
+
+/* Adds a pair of a column, of which this takes the caller's reference, and a value. */
+static void add_pair(HashTable *pairs, zval *column, zval *value)
+{
+    zval pair;
+    Z_TRY_ADDREF_P(value);
+    array_init_size(&pair, 2);
+    zend_hash_next_index_insert_new(Z_ARRVAL(pair), column);
+    zend_hash_next_index_insert_new(Z_ARRVAL(pair), value);
+    zend_hash_next_index_insert_new(pairs, &pair);
+}
+
+/* Adds the pairs of keys, which are columns, and their values. Returns whether they are, without an exception. */
+static bool add_named(HashTable *pairs, HashTable *assigned)
+{
+    zend_string *name;
+    zval *value, column;
+    ZEND_HASH_FOREACH_STR_KEY_VAL(assigned, name, value) {
+        if (name == NULL)
+            return false;
+        ZVAL_DEREF(value);
+        make_identifier(&column, name);
+        add_pair(pairs, &column, value);
+    } ZEND_HASH_FOREACH_END();
+    return true;
+}
+
+/* Adds pairs of a column, which is a name or an Identifier, and a value. Returns whether they are, without an exception. */
+static bool add_pairs(HashTable *pairs, HashTable *assigned)
+{
+    zval *pair, made;
+    ZEND_HASH_FOREACH_VAL(assigned, pair) {
+        ZVAL_DEREF(pair);
+        if (Z_TYPE_P(pair) != IS_ARRAY || zend_hash_num_elements(Z_ARRVAL_P(pair)) != 2 ||
+            !zend_array_is_list(Z_ARRVAL_P(pair)))
+            return false;
+        zval *column = zend_hash_index_find(Z_ARRVAL_P(pair), 0), *value = zend_hash_index_find(Z_ARRVAL_P(pair), 1);
+        ZVAL_DEREF(column);
+        ZVAL_DEREF(value);
+        if (Z_TYPE_P(column) == IS_STRING)
+            make_identifier(&made, Z_STR_P(column));
+        else if (Z_TYPE_P(column) == IS_OBJECT && Z_OBJCE_P(column) == identifier_ce)
+            ZVAL_COPY(&made, column);
+        else
+            return false;
+        add_pair(pairs, &made, value);
+    } ZEND_HASH_FOREACH_END();
+    return true;
+}
+
+PHP_METHOD(MysqlParams_Assignments, __construct)
+{
+    HashTable *assigned;
+    zval kept;
+    ZEND_PARSE_PARAMETERS_START(1, 1)
+        Z_PARAM_ARRAY_HT(assigned)
+    ZEND_PARSE_PARAMETERS_END();
+    array_init_size(&kept, zend_hash_num_elements(assigned));
+    bool is_list = zend_array_is_list(assigned);
+    if (is_list ? add_pairs(Z_ARRVAL(kept), assigned) : add_named(Z_ARRVAL(kept), assigned))
+        set_readonly(Z_OBJ_P(ZEND_THIS), "pairs", &kept);
+    else
+        zend_argument_type_error(1, "must be an array whose keys are columns, or a list of pairs of a column, which is "
+                                    "a string or an Identifier, and a value");
+    zval_ptr_dtor(&kept);
+}
+
 /* Throws for a word that is none of the keywords of the program. */
 static void refuse_word(const zend_string *word, HashTable *among)
 {
@@ -271,6 +348,8 @@ void register_classes(void)
     declare_mask(decimal_ce, "digits", MAY_BE_STRING);
     identifier_ce = register_class("MysqlParams\\Identifier", identifier_methods);
     declare_mask(identifier_ce, "parts", MAY_BE_ARRAY);
+    assignments_ce = register_class("MysqlParams\\Assignments", assignments_methods);
+    declare_mask(assignments_ce, "pairs", MAY_BE_ARRAY);
     keyword_ce = register_class("MysqlParams\\Keyword", keyword_methods);
     declare_mask(keyword_ce, "word", MAY_BE_STRING);
     names_ce = register_class("MysqlParams\\Names", names_methods);

@@ -34,6 +34,10 @@ ZEND_BEGIN_ARG_INFO_EX(arginfo_identifier_construct, 0, 0, 0)
     ZEND_ARG_VARIADIC_TYPE_INFO(0, parts, IS_STRING, 0)
 ZEND_END_ARG_INFO()
 
+ZEND_BEGIN_ARG_INFO_EX(arginfo_assignments_construct, 0, 0, 1)
+    ZEND_ARG_TYPE_INFO(0, assigned, IS_ARRAY, 0)
+ZEND_END_ARG_INFO()
+
 ZEND_BEGIN_ARG_INFO_EX(arginfo_keyword_construct, 0, 0, 2)
     ZEND_ARG_TYPE_INFO(0, word, IS_STRING, 0)
     ZEND_ARG_TYPE_INFO(0, among, IS_ARRAY, 0)
@@ -46,6 +50,7 @@ PHP_METHOD(MysqlParams_Template, bindRows);
 PHP_METHOD(MysqlParams_Decimal, __construct);
 PHP_METHOD(MysqlParams_Decimal, __toString);
 PHP_METHOD(MysqlParams_Identifier, __construct);
+PHP_METHOD(MysqlParams_Assignments, __construct);
 PHP_METHOD(MysqlParams_Keyword, __construct);
 PHP_METHOD(MysqlParams_Construct, message);
 PHP_METHOD(MysqlParams_Unportable, __construct);
@@ -67,6 +72,11 @@ static const zend_function_entry decimal_methods[] = {
 
 static const zend_function_entry identifier_methods[] = {
     PHP_ME(MysqlParams_Identifier, __construct, arginfo_identifier_construct, ZEND_ACC_PUBLIC)
+    PHP_FE_END
+};
+
+static const zend_function_entry assignments_methods[] = {
+    PHP_ME(MysqlParams_Assignments, __construct, arginfo_assignments_construct, ZEND_ACC_PUBLIC)
     PHP_FE_END
 };
 

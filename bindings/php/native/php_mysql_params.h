@@ -95,6 +95,8 @@ enum {
     TYPE_IDENTIFIER = 131,
     TYPE_QUALIFIED = 132,
     TYPE_KEYWORD = 133,
+    TYPE_IDENTIFIERS = 134,
+    TYPE_ASSIGNMENTS = 135,
     TYPE_VAR_STRING = 253
 };
 
@@ -167,10 +169,11 @@ zend_string *bound(question *question, HashTable *params, enum level level);
 /* The texts of rows, as a new array in `texts`. */
 bool bind_all_rows(bytes query, bool mode, zval *rows, zval *texts);
 
-extern zend_class_entry *template_ce, *decimal_ce, *identifier_ce, *keyword_ce, *exception_ce, *construct_ce,
-    *fault_ce, *unportable_ce, *names_ce;
+extern zend_class_entry *template_ce, *decimal_ce, *identifier_ce, *assignments_ce, *keyword_ce, *exception_ce,
+    *construct_ce, *fault_ce, *unportable_ce, *names_ce;
 
-/* The first property of an object of the classes Decimal, Identifier and Keyword, which is what is written of it. */
+/* The first property of an object of the classes Decimal, Identifier, Assignments and Keyword, which is what is written of
+ * it. */
 #define FIRST_PROPERTY(object) OBJ_PROP_NUM(object, 0)
 
 void register_classes(void);

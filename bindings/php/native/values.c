@@ -9,11 +9,9 @@
 
 #include <math.h>
 
-/* Appends a name as messages show it: without its colon, and a byte that isn't printable ASCII, `"` or `\` as `\x` and
- * two digits. */
-static void append_shown(smart_str *to, const zend_string *name)
+/* Appends a name as messages show it, from a byte on: one that isn't printable ASCII, `"` or `\` as `\x` and two digits. */
+static void append_shown(smart_str *to, const zend_string *name, size_t begin)
 {
-    size_t begin = ZSTR_LEN(name) > 0 && ZSTR_VAL(name)[0] == ':';
     for (size_t i = begin; i < ZSTR_LEN(name); i++) {
         uint8_t byte = (uint8_t)ZSTR_VAL(name)[i];
         if (byte < 32 || byte > 126 || byte == '"' || byte == '\\')
@@ -33,7 +31,7 @@ static zend_string *place_of(const writer *writer)
         smart_str_append_printf(&place, "the value for place " ZEND_LONG_FMT, writer->number);
     } else {
         smart_str_appends(&place, "the value of `:");
-        append_shown(&place, writer->name);
+        append_shown(&place, writer->name, ZSTR_LEN(writer->name) > 0 && ZSTR_VAL(writer->name)[0] == ':');
         smart_str_appendc(&place, '`');
     }
     return smart_str_extract(&place);
@@ -127,7 +125,95 @@ static uint32_t count_rows(HashTable *items)
     return rows;
 }
 
-/* Appends a list, or rows of lists. */
+/* Throws for an object that holds nothing, or what its constructor doesn't make, as by reflection. */
+static bool refuse_unmade(const zend_object *object)
+{
+    zend_throw_error(NULL, "%s was not constructed", ZSTR_VAL(object->ce->name));
+    return false;
+}
+
+/* What a Decimal, an Identifier, Assignments or a Keyword was made of; null with an exception thrown. */
+static zval *made_of(zend_object *object)
+{
+    zval *made = FIRST_PROPERTY(object);
+    if (Z_TYPE_P(made) != IS_UNDEF)
+        return made;
+    refuse_unmade(object);
+    return NULL;
+}
+
+/* The names of an Identifier, at least one; null with an exception thrown. */
+static HashTable *names_of(zend_object *object)
+{
+    zval *made = made_of(object), *name;
+    if (made == NULL)
+        return NULL;
+    bool are_names = zend_hash_num_elements(Z_ARRVAL_P(made)) > 0;
+    ZEND_HASH_FOREACH_VAL(Z_ARRVAL_P(made), name) {
+        are_names &= Z_TYPE_P(name) == IS_STRING;
+    } ZEND_HASH_FOREACH_END();
+    if (are_names)
+        return Z_ARRVAL_P(made);
+    refuse_unmade(object);
+    return NULL;
+}
+
+/* Appends names. */
+static void append_names(form *form, HashTable *names)
+{
+    zval *name;
+    ZEND_HASH_FOREACH_VAL(names, name) {
+        form_string(form, Z_STRVAL_P(name), Z_STRLEN_P(name));
+    } ZEND_HASH_FOREACH_END();
+}
+
+/* Appends the names of a column, and before them their count. */
+static void append_column(form *form, HashTable *names)
+{
+    append_count(form, zend_hash_num_elements(names));
+    append_names(form, names);
+}
+
+/* Whether an array's values are Identifiers, of which there is at least one. */
+static bool are_identifiers(HashTable *items)
+{
+    zval *item;
+    ZEND_HASH_FOREACH_VAL(items, item) {
+        ZVAL_DEREF(item);
+        if (Z_TYPE_P(item) != IS_OBJECT || Z_OBJCE_P(item) != identifier_ce)
+            return false;
+    } ZEND_HASH_FOREACH_END();
+    return zend_hash_num_elements(items) > 0;
+}
+
+/* Appends identifiers. */
+static bool write_identifiers(const writer *writer, HashTable *items)
+{
+    zval *item;
+    append_head(writer->form, TYPE_IDENTIFIERS);
+    append_count(writer->form, zend_hash_num_elements(items));
+    ZEND_HASH_FOREACH_VAL(items, item) {
+        ZVAL_DEREF(item);
+        HashTable *names = names_of(Z_OBJ_P(item));
+        if (names == NULL)
+            return false;
+        append_column(writer->form, names);
+    } ZEND_HASH_FOREACH_END();
+    return true;
+}
+
+/* Whether each key of an array is a string. */
+static bool has_names(HashTable *items)
+{
+    zend_string *name;
+    ZEND_HASH_FOREACH_STR_KEY(items, name) {
+        if (name == NULL)
+            return false;
+    } ZEND_HASH_FOREACH_END();
+    return true;
+}
+
+/* Appends a list, rows of lists, or identifiers. */
 static bool write_array(const writer *writer, HashTable *items)
 {
     if (writer->level == LEVEL_VALUES)
@@ -137,7 +223,8 @@ static bool write_array(const writer *writer, HashTable *items)
         return refuse_value(writer, zend_ce_type_error, "has an array in a row: rows are of values");
     if (!zend_array_is_list(items))
         return refuse_value(writer, zend_ce_type_error,
-                            "is an array with keys, which is no list: give array_values(..) of it");
+                            "is an array with keys, which is no list: %sgive array_values(..) of it",
+                            has_names(items) ? "for SET give new Assignments(..) of it, else " : "");
     uint32_t rows = count_rows(items);
     if (rows > 0 && rows < zend_hash_num_elements(items))
         return refuse_value(writer, zend_ce_type_error,
@@ -145,32 +232,90 @@ static bool write_array(const writer *writer, HashTable *items)
     writer->form->is_fragments = true;
     if (rows > 0)
         return write_rows(writer, items);
+    if (are_identifiers(items))
+        return write_identifiers(writer, items);
     append_head(writer->form, TYPE_LIST);
     return write_items(writer, items);
-}
-
-/* What a Decimal, an Identifier or a Keyword was made of; null with an exception thrown. */
-static zval *made_of(zend_object *object)
-{
-    zval *made = FIRST_PROPERTY(object);
-    if (Z_TYPE_P(made) != IS_UNDEF)
-        return made;
-    zend_throw_error(NULL, "%s was not constructed", ZSTR_VAL(object->ce->name));
-    return NULL;
 }
 
 /* Appends the name of what is in something else, or a name of its own. */
 static bool write_identifier(const writer *writer, zend_object *object)
 {
-    zval *parts = made_of(object), *part;
-    if (parts == NULL)
+    HashTable *names = names_of(object);
+    if (names == NULL)
         return false;
-    bool is_qualified = zend_hash_num_elements(Z_ARRVAL_P(parts)) > 1;
-    append_head(writer->form, is_qualified ? TYPE_QUALIFIED : TYPE_IDENTIFIER);
-    if (is_qualified)
-        append_count(writer->form, zend_hash_num_elements(Z_ARRVAL_P(parts)));
-    ZEND_HASH_FOREACH_VAL(Z_ARRVAL_P(parts), part) {
-        form_string(writer->form, Z_STRVAL_P(part), Z_STRLEN_P(part));
+    if (zend_hash_num_elements(names) > 1) {
+        append_head(writer->form, TYPE_QUALIFIED);
+        append_column(writer->form, names);
+    } else {
+        append_head(writer->form, TYPE_IDENTIFIER);
+        append_names(writer->form, names);
+    }
+    return true;
+}
+
+/* Throws for what no column is set to. */
+static bool refuse_assigned(const writer *writer, HashTable *names, const zval *value)
+{
+    smart_str column = {0};
+    zval *name;
+    ZEND_HASH_FOREACH_VAL(names, name) {
+        smart_str_appends(&column, column.s == NULL ? "`" : ".`");
+        append_shown(&column, Z_STR_P(name), 0);
+        smart_str_appendc(&column, '`');
+    } ZEND_HASH_FOREACH_END();
+    smart_str_0(&column);
+    refuse_value(writer, zend_ce_type_error, "sets %s to a value of type %s: a column takes one value",
+                 ZSTR_VAL(column.s), Z_TYPE_P(value) == IS_OBJECT ? ZSTR_VAL(Z_OBJCE_P(value)->name) : "array");
+    smart_str_free(&column);
+    return false;
+}
+
+/* Whether it is an array, or an object that stands for more than one value or for none. */
+static bool is_no_item(const zval *value)
+{
+    if (Z_TYPE_P(value) != IS_OBJECT)
+        return Z_TYPE_P(value) == IS_ARRAY;
+    const zend_class_entry *kind = Z_OBJCE_P(value);
+    return kind == identifier_ce || kind == assignments_ce || kind == keyword_ce;
+}
+
+/* Appends a column and what it is set to, a pair of both. */
+static bool write_assignment(const writer *writer, HashTable *pair)
+{
+    zval *column = zend_hash_index_find(pair, 0), *value = zend_hash_index_find(pair, 1);
+    HashTable *names = names_of(Z_OBJ_P(column));
+    if (names == NULL)
+        return false;
+    if (is_no_item(value))
+        return refuse_assigned(writer, names, value);
+    append_column(writer->form, names);
+    return write_value(writer, value);
+}
+
+/* Whether it is a pair as the constructor of Assignments makes it. */
+static bool is_pair(const zval *pair)
+{
+    if (Z_TYPE_P(pair) != IS_ARRAY)
+        return false;
+    const zval *column = zend_hash_index_find(Z_ARRVAL_P(pair), 0), *value = zend_hash_index_find(Z_ARRVAL_P(pair), 1);
+    return column != NULL && Z_TYPE_P(column) == IS_OBJECT && Z_OBJCE_P(column) == identifier_ce && value != NULL &&
+           Z_TYPE_P(value) != IS_REFERENCE;
+}
+
+/* Appends assignments. */
+static bool write_assignments(const writer *writer, const zend_object *object, HashTable *pairs)
+{
+    struct writer inner = *writer;
+    zval *pair;
+    inner.level = LEVEL_ITEMS;
+    append_head(writer->form, TYPE_ASSIGNMENTS);
+    append_count(writer->form, zend_hash_num_elements(pairs));
+    ZEND_HASH_FOREACH_VAL(pairs, pair) {
+        if (!is_pair(pair))
+            return refuse_unmade(object);
+        if (!write_assignment(&inner, Z_ARRVAL_P(pair)))
+            return false;
     } ZEND_HASH_FOREACH_END();
     return true;
 }
@@ -207,7 +352,7 @@ static bool write_alone(const writer *writer, const zend_object *object, const z
                         ZSTR_VAL(object->ce->name), object->ce == decimal_ce ? to_do : "");
 }
 
-/* Appends a Decimal, an Identifier or a Keyword, of which only the first stands in a list. */
+/* Appends a Decimal, an Identifier, Assignments or a Keyword, of which only the first stands in a list of values. */
 static bool write_fragment(const writer *writer, zend_object *object)
 {
     zval *made = made_of(object);
@@ -217,11 +362,14 @@ static bool write_fragment(const writer *writer, zend_object *object)
         return write_alone(writer, object, made);
     if (writer->level == LEVEL_ITEMS && object->ce != decimal_ce)
         return refuse_value(writer, zend_ce_type_error,
-                            "has an item that is of type %s: lists and rows are of values, so write a place for each",
+                            "has an item that is of type %s: lists and rows are of values, or a list of Identifiers "
+                            "alone, so write a place for each",
                             ZSTR_VAL(object->ce->name));
     writer->form->is_fragments = true;
     if (object->ce == identifier_ce)
         return write_identifier(writer, object);
+    if (object->ce == assignments_ce)
+        return write_assignments(writer, object, Z_ARRVAL_P(made));
     append_string(writer->form, object->ce == decimal_ce ? TYPE_NUMBER : TYPE_KEYWORD, Z_STR_P(made));
     return true;
 }
@@ -239,7 +387,7 @@ static bool write_case(const writer *writer, zend_object *object)
 static bool write_object(const writer *writer, zend_object *object)
 {
     zend_class_entry *kind = object->ce;
-    if (kind == decimal_ce || kind == identifier_ce || kind == keyword_ce)
+    if (kind == decimal_ce || kind == identifier_ce || kind == assignments_ce || kind == keyword_ce)
         return write_fragment(writer, object);
     if (kind->ce_flags & ZEND_ACC_ENUM)
         return write_case(writer, object);

@@ -4,7 +4,7 @@
 
 namespace MysqlParams\Tests;
 
-use MysqlParams\{BindException, Construct, Decimal, Fault, Identifier, Keyword, Template, Unportable};
+use MysqlParams\{Assignments, BindException, Construct, Decimal, Fault, Identifier, Keyword, Template, Unportable};
 
 require __DIR__ . '/harness.php';
 
@@ -44,6 +44,25 @@ function list_of(string $items): array
     return $items === '' ? [] : array_map(value_of(...), explode('|', $items));
 }
 
+/** Returns the identifier of names between bars. */
+function identifier_of(string $text): Identifier
+{
+    return new Identifier(...array_map(text_of(...), explode('|', $text)));
+}
+
+/** Returns a column and what it is set to. A column of one name is a string. */
+function pair_of(string $text): array
+{
+    [$names, $value] = explode('=', $text, 2);
+    return [str_contains($names, '|') ? identifier_of($names) : text_of($names), value_of($value)];
+}
+
+/** Returns what a function makes of each part of a text between two bars. */
+function each_of(callable $make, string $text): array
+{
+    return $text === '' ? [] : array_map($make, explode('||', $text));
+}
+
 /** Returns the value of a parameter as PHP has it. */
 function value_of(string $text): mixed
 {
@@ -59,7 +78,9 @@ function value_of(string $text): mixed
         'time' => interval_of($rest),
         'list' => list_of($rest),
         'rows' => array_map(list_of(...), explode('||', $rest)),
-        'identifier', 'qualified' => new Identifier(...array_map(text_of(...), explode('|', $rest))),
+        'identifier', 'qualified' => identifier_of($rest),
+        'identifiers' => each_of(identifier_of(...), $rest),
+        'assignments' => new Assignments(each_of(pair_of(...), $rest)),
         'keyword' => new Keyword($rest, ['ASC', $rest]),
     };
 }

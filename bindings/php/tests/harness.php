@@ -44,6 +44,13 @@ function holds(bool $truth, string $of = ''): void
     same(true, $truth, $of);
 }
 
+/** Throws unless a value is bound as this literal. */
+function literal(string $wanted, mixed $value): void
+{
+    same("SELECT $wanted", \MysqlParams\bind('SELECT :a', ['a' => $value]), get_debug_type($value));
+    same("SELECT $wanted", \MysqlParams\bind('SELECT ?', [$value]), get_debug_type($value));
+}
+
 /** Returns what a call throws. */
 function thrown(callable $call): \Throwable
 {

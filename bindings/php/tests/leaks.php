@@ -7,7 +7,7 @@
 
 namespace MysqlParams\Tests;
 
-use MysqlParams\{BindException, Decimal, Identifier, Keyword, Template};
+use MysqlParams\{Assignments, BindException, Decimal, Identifier, Keyword, Template};
 
 use function MysqlParams\{bind, bind_anywhere, bind_form, bind_in_both_modes, bind_rows, first_unportable, first_unportable_in_client, names};
 
@@ -33,6 +33,9 @@ function calls(): array
         'long text' => fn () => bind('SELECT ?, ?', [$long, $long]),
         'rows of a place' => fn () => bind('INSERT INTO ? VALUES ?', [new Identifier('shop', 't'), $rows]),
         'keyword' => fn () => bind('ORDER BY ? ?', [new Identifier('a'), new Keyword('DESC', ['ASC', 'DESC'])]),
+        'identifiers' => fn () => bind('INSERT INTO t (?)', [[new Identifier('a'), new Identifier('t', 'b')]]),
+        'assignments' => fn () => bind('SET ?', [new Assignments(['a' => 1, "b\u{e9}" => $long])]),
+        'pairs' => fn () => bind_anywhere('SET ?', [new Assignments([['a', "it's"], [new Identifier('t', 'b'), new Decimal('1.5')]])]),
         'form' => fn () => bind_form('SELECT ?', "\0\x06\0"),
         'rows' => fn () => bind_rows('VALUES (?, ?, ?, ?)', $rows),
         'rows of a generator' => fn () => bind_rows('VALUES (?)', (fn () => yield from array_fill(0, 300, ['x']))()),
@@ -69,6 +72,14 @@ function calls(): array
         })()),
         'refused identifier' => fn () => new Identifier('a', 5),
         'refused keyword' => fn () => new Keyword('x', ['ASC']),
+        'refused item beside identifiers' => fn () => bind('SELECT ?', [[new Identifier('a'), $long]]),
+        'refused assignment' => fn () => bind('SET ?', [new Assignments(['a' => $long, "b\u{e9}" => [1]])]),
+        'refused column' => fn () => bind('SET ?', [new Assignments([[new Identifier('t', "b\0"), $long]])]),
+        'no assignments' => fn () => bind('SET ?', [new Assignments([])]),
+        'array with keys' => fn () => bind('SET ?', [['a' => $long]]),
+        'refused keys of assignments' => fn () => new Assignments(['a' => $long, 5 => 1]),
+        'refused pairs of assignments' => fn () => new Assignments([['a', $long], [new Identifier('b'), 1], [5, 1]]),
+        'second constructor of assignments' => fn () => (new Assignments(['a' => $long]))->__construct(['b' => 1]),
         'second constructor' => fn () => $template->__construct('SELECT 1'),
     ];
 }

@@ -7,7 +7,7 @@
 
 namespace MysqlParams\Tests;
 
-use MysqlParams\{BindException, Construct, Decimal, Identifier, Keyword};
+use MysqlParams\{Assignments, BindException, Construct, Decimal, Identifier, Keyword};
 
 use function MysqlParams\{ask_again, execute, query};
 
@@ -432,6 +432,29 @@ test('values of each type on a server', function () {
         same(2, (int) cell($connection, 'SELECT id FROM shop.item WHERE id IN (:ids) ORDER BY :by :order LIMIT 1', ['ids' => [1, 2], 'by' => new Identifier('id'), 'order' => new Keyword('DESC', ['ASC', 'DESC'])]), $driver);
         same(2, execute($connection, 'DELETE FROM shop.item WHERE id IN (?)', [[1, 2, 3]]), $driver);
         same(0, execute($connection, 'DELETE FROM shop.item WHERE id <=> ?', [null]), $driver);
+    }
+});
+
+test('columns and assignments on a server', function () {
+    foreach (connections() as $driver => $connection) {
+        plain($connection, 'CREATE DATABASE IF NOT EXISTS shop');
+        plain($connection, 'DROP TABLE IF EXISTS shop.`a``b`');
+        plain($connection, 'CREATE TABLE shop.`a``b` (id INT, `x, y` VARCHAR(50), `it``s` DECIMAL(20,2))');
+        $columns = [new Identifier('it`s'), new Identifier('id'), new Identifier('a`b', 'x, y')];
+        $into = 'INSERT INTO :table (:columns) VALUES :rows';
+        same(1, execute($connection, $into, ['table' => new Identifier('shop', 'a`b'), 'columns' => $columns, 'rows' => [[new Decimal('0.10'), 1, 'x']]]), $driver);
+        foreach (MODES as $mode) {
+            plain($connection, "SET sql_mode = '$mode'");
+            foreach (["'; DROP TABLE t; -- ", '\\', "\\'", '`x, y` = 5'] as $text) {
+                $set = new Assignments(['it`s' => new Decimal('2.20'), 'x, y' => $text]);
+                execute($connection, 'UPDATE shop.`a``b` SET :set WHERE id = :id', ['set' => $set, 'id' => 1]);
+                same($text, cell($connection, 'SELECT :c FROM shop.`a``b`', ['c' => new Identifier('x, y')]), "$driver, $mode, $text");
+            }
+        }
+        same('2.20', cell($connection, 'SELECT ? FROM shop.`a``b` WHERE id = 1 GROUP BY ?', [[new Identifier('it`s')], $columns]), $driver);
+        $set = new Assignments([[new Identifier('shop', 'a`b', 'x, y'), null]]);
+        same(1, execute($connection, 'UPDATE shop.`a``b` SET ?', [$set]), $driver);
+        same(null, cell($connection, 'SELECT `x, y` FROM shop.`a``b`'), $driver);
     }
 });
 

@@ -4,7 +4,7 @@
 
 namespace MysqlParams\Tests;
 
-use MysqlParams\{BindException, Decimal, Fault, Identifier, Keyword, Names, Template, Unportable};
+use MysqlParams\{Assignments, BindException, Decimal, Identifier, Keyword, Names, Template, Unportable};
 
 use function MysqlParams\{bind, bind_anywhere, bind_in_both_modes, bind_rows, first_unportable, names};
 
@@ -49,13 +49,6 @@ class EmptyInterval extends \DateInterval
     public function __construct()
     {
     }
-}
-
-/** Throws unless a value is bound as this literal. */
-function literal(string $wanted, mixed $value): void
-{
-    same("SELECT $wanted", bind('SELECT :a', ['a' => $value]), get_debug_type($value));
-    same("SELECT $wanted", bind('SELECT ?', [$value]), get_debug_type($value));
 }
 
 /** Returns an interval with these properties. */
@@ -182,106 +175,6 @@ test('enums by their value', function () {
     refused(\TypeError::class, $message, fn () => bind('SELECT :a', ['a' => Pure::Only]));
 });
 
-test('exact numbers', function () {
-    literal('9.99', new Decimal('9.99'));
-    literal('-12', new Decimal(-12));
-    literal('18446744073709551616', new Decimal('18446744073709551616'));
-    literal('1, 0.10', [1, new Decimal('0.10')]);
-    same(['9.99', '9.99'], [(string) new Decimal('9.99'), (new Decimal('9.99'))->digits]);
-    foreach (['', '1e3', '1.2.3', ' 1', '+1', '0x10', "1\0", str_repeat('9', 66), '1; DROP TABLE t'] as $digits) {
-        $message = "Fragment at place 0 can't be written: item 0 of row 0 is no exact number";
-        $refusal = refused(BindException::class, $message, fn () => bind('SELECT :a', ['a' => new Decimal($digits)]));
-        same(['fault' => Fault::Number, 'item' => 0, 'name' => 'a', 'place' => 0, 'row' => 0], fields($refusal));
-    }
-});
-
-test('whole numbers of 64 bits are values everywhere', function () {
-    $whole = fn ($digits) => [new Decimal($digits)];
-    foreach (['18446744073709551615', '9223372036854775808', '0', '7', '-9223372036854775808', '-1'] as $digits) {
-        same("SELECT $digits", bind_in_both_modes('SELECT ?', $whole($digits)));
-        same(["SELECT $digits"], bind_rows('SELECT ?', [$whole($digits)]));
-    }
-    $message = 'is of type MysqlParams\Decimal, and this call takes values alone: give its digits as a text, within CAST(.. AS DECIMAL(20,2))';
-    foreach (['18446744073709551616', '-9223372036854775809', '1.5', '', '-', '01', '-01', '1a', '99999999999999999999'] as $digits) {
-        refused(\TypeError::class, "the value for place 0 $message", fn () => bind_in_both_modes('SELECT ?', $whole($digits)));
-        refused(\TypeError::class, "row 0: the value for place 0 $message", fn () => bind_rows('SELECT ?', [$whole($digits)]));
-    }
-    same('SELECT 0', bind_in_both_modes('SELECT ?', [new Decimal('-0')]));
-});
-
-test('lists and rows', function () {
-    literal("1, 'a', NULL, 0.5e0, 1", [1, 'a', null, 0.5, true]);
-    same("VALUES (1, 'a'), (2, NULL)", bind('VALUES ?', [[[1, 'a'], [2, null]]]));
-    same("VALUES (1, _utf8mb4'a')", bind_anywhere('VALUES :rows', ['rows' => [[1, 'a']]]));
-    $shared = [1, 2];
-    same('(1, 2), (1, 2)', bind('?', [[$shared, &$shared]]));
-    $refs = [1, 2];
-    foreach ($refs as &$item) {
-        $held = &$item;
-    }
-    literal('1, 2', $refs);
-});
-
-test('lists and rows that cannot be written', function () {
-    foreach ([
-        [[], Fault::Empty, 0, 'it is empty'],
-        [[[]], Fault::EmptyRow, 0, 'row 0 is empty'],
-        [[[1, 2], [3]], Fault::RowLength, 1, 'row 1 is not as long as the first'],
-    ] as [$value, $fault, $row, $why]) {
-        $message = "Fragment at place 0 can't be written: $why";
-        $refusal = refused(BindException::class, $message, fn () => bind('SELECT :a', ['a' => $value]));
-        same(BindException::FAULT, $refusal->getCode());
-        same(['fault' => $fault, 'item' => 0, 'name' => 'a', 'place' => 0, 'row' => $row], fields($refusal));
-        refused(BindException::class, $message, fn () => bind_anywhere('SELECT ?', [$value]));
-    }
-    $table = [
-        [['a' => 1], 'is an array with keys, which is no list: give array_values(..) of it'],
-        [[1 => 'a'], 'is an array with keys, which is no list: give array_values(..) of it'],
-        [[1, [2]], 'has rows and values: give a list of values, or one of rows alone'],
-        [[[1], 2], 'has rows and values: give a list of values, or one of rows alone'],
-        [[['a' => 1]], 'has keys in row 0, and a row is a list: give array_values(..) of it'],
-        [[[1], [5 => 1]], 'has keys in row 1, and a row is a list: give array_values(..) of it'],
-        [[[1, [2]]], 'has an array in a row: rows are of values'],
-        [[new Identifier('t')], 'has an item that is of type MysqlParams\Identifier: lists and rows are of values, so write a place for each'],
-        [[new Keyword('ASC', ['ASC'])], 'has an item that is of type MysqlParams\Keyword: lists and rows are of values, so write a place for each'],
-    ];
-    foreach ($table as [$value, $why]) {
-        refused(\TypeError::class, "the value of `:a` $why", fn () => bind('SELECT :a', ['a' => $value]));
-        refused(\TypeError::class, "the value for place 1 $why", fn () => bind('SELECT ?, ?', [1, $value]));
-    }
-    $cycle = [1];
-    $cycle[] = &$cycle;
-    refused(\TypeError::class, 'the value for place 0 has rows and values: give a list of values, or one of rows alone', fn () => bind('?', [$cycle]));
-    $cycle = null;
-});
-
-test('identifiers', function () {
-    literal('`t`', new Identifier('t'));
-    literal('`shop`.`a``b`', new Identifier('shop', 'a`b'));
-    same(['shop', 't'], (new Identifier('shop', 't'))->parts);
-    foreach (['' => Fault::EmptyName, "a\0b" => Fault::ZeroByte, 'a ' => Fault::TrailingSpace, 'a\\' => Fault::Backslash] as $name => $fault) {
-        same($fault, thrown(fn () => bind('SELECT ?', [new Identifier($name)]))->fault);
-        $second = thrown(fn () => bind('SELECT ?', [new Identifier('t', $name)]));
-        same([$fault, 1], [$second->fault, $second->item]);
-    }
-    same(Fault::LongName, thrown(fn () => bind('SELECT ?', [new Identifier(str_repeat('x', 65))]))->fault);
-    refused(\ArgumentCountError::class, 'MysqlParams\Identifier::__construct() expects at least 1 argument, 0 given', fn () => new Identifier());
-    refused(\TypeError::class, 'MysqlParams\Identifier::__construct(): Argument #2 must be of type string, int given', fn () => new Identifier('a', 5));
-});
-
-test('keywords', function () {
-    literal('DESC', new Keyword('DESC', ['ASC', 'DESC']));
-    literal('IS NOT NULL', new Keyword('IS NOT NULL', among: ['IS NULL', 'IS NOT NULL']));
-    same('DESC', (new Keyword('DESC', ['DESC']))->word);
-    foreach ([['x', ['ASC', 'DESC'], 'ASC, DESC'], ['desc', ['DESC'], 'DESC'], ['1', [1], 'of none'], ['a', [], 'of none']] as [$word, $among, $told]) {
-        $message = 'MysqlParams\Keyword::__construct(): Argument #1 ($word) must be one of the keywords ' . $told . ', and it has ' . strlen($word) . ' bytes of another text';
-        refused(\ValueError::class, $message, fn () => new Keyword($word, $among));
-    }
-    $message = "Fragment at place 0 can't be written: it is none of the keywords in capitals that README lists";
-    refused(BindException::class, $message, fn () => bind('SELECT ?', [new Keyword('BETWEEN', ['BETWEEN'])]));
-    same(Fault::Keyword, thrown(fn () => bind('SELECT ?', [new Keyword("DESC\0", ["DESC\0"])]))->fault);
-});
-
 test('other types are refused by name', function () {
     $table = [
         [new \stdClass(), 'is of type stdClass, which has no literal'],
@@ -306,6 +199,11 @@ test('calls that take values alone', function () {
     $name = 'is of type MysqlParams\Identifier, and this call takes values alone';
     refused(\TypeError::class, "the value of `:t` $name", fn () => bind_in_both_modes('SELECT :t', ['t' => new Identifier('t')]));
     refused(\TypeError::class, "row 0: the value of `:t` $name", fn () => bind_rows('SELECT :t', [['t' => new Identifier('t')]]));
+    $assignments = 'is of type MysqlParams\Assignments, and this call takes values alone';
+    refused(\TypeError::class, "the value for place 0 $assignments", fn () => bind_in_both_modes('SET ?', [new Assignments(['a' => 1])]));
+    refused(\TypeError::class, "row 0: the value for place 0 $assignments", fn () => bind_rows('SET ?', [[new Assignments(['a' => 1])]]));
+    refused(\TypeError::class, "the value for place 0 $array", fn () => bind_in_both_modes('SELECT ?', [[new Identifier('t')]]));
+    refused(\TypeError::class, "the value for place 0 $array", fn () => bind_in_both_modes('SELECT ?', [['a' => 1]]));
     refused(BindException::class, 'Float at place 0', fn () => bind_in_both_modes('SELECT ?', [0.5]));
 });
 
@@ -431,25 +329,26 @@ test('templates', function () {
 
 test('objects that nobody constructed', function () {
     holds(thrown(fn () => (new \ReflectionClass(Template::class))->newInstanceWithoutConstructor()) instanceof \ReflectionException);
-    foreach ([Decimal::class, Identifier::class, Keyword::class] as $kind) {
+    foreach ([Decimal::class, Identifier::class, Assignments::class, Keyword::class] as $kind) {
         $made = (new \ReflectionClass($kind))->newInstanceWithoutConstructor();
         refused(\Error::class, "$kind was not constructed", fn () => bind('SELECT ?', [$made]));
         refused(\Error::class, "$kind was not constructed", fn () => bind('SELECT ?', [[$made]]));
     }
     same('', (string) (new \ReflectionClass(Decimal::class))->newInstanceWithoutConstructor());
-    foreach ([Template::class, Decimal::class, Identifier::class, Keyword::class] as $kind) {
+    foreach ([Template::class, Decimal::class, Identifier::class, Assignments::class, Keyword::class] as $kind) {
         holds(thrown(fn () => unserialize('O:' . strlen($kind) . ":\"$kind\":0:{}")) instanceof \Exception, $kind);
         holds(thrown(fn () => serialize(match ($kind) {
             Template::class => new Template(''),
             Decimal::class => new Decimal('1'),
             Identifier::class => new Identifier('a'),
+            Assignments::class => new Assignments(['a' => 1]),
             Keyword::class => new Keyword('ASC', ['ASC']),
         })) instanceof \Exception, $kind);
     }
     foreach ([Names::class, Unportable::class] as $kind) {
         holds(thrown(fn () => new $kind()) instanceof \Error, $kind);
     }
-    foreach (['digits' => new Decimal('1'), 'parts' => new Identifier('a'), 'word' => new Keyword('ASC', ['ASC'])] as $property => $object) {
+    foreach (['digits' => new Decimal('1'), 'parts' => new Identifier('a'), 'pairs' => new Assignments(['a' => 1]), 'word' => new Keyword('ASC', ['ASC'])] as $property => $object) {
         $kind = get_class($object);
         refused(\Error::class, "Cannot modify readonly property $kind::\$$property", fn () => $object->$property = ['x']);
         refused(\Error::class, "Cannot create dynamic property $kind::\$more", fn () => $object->more = 1);
@@ -483,6 +382,9 @@ test('no message and no trace shows a value', function () {
         fn () => \MysqlParams\query(new \stdClass(), 'SELECT :a', ['a' => $secret]),
         fn () => \MysqlParams\execute(new \stdClass(), 'SELECT :a', ['a' => $secret]),
         fn () => bind('SELECT ?', [[$secret, new \stdClass()]]),
+        fn () => bind('SELECT ?', [new Assignments(['a' => $secret, 'b' => [$secret]])]),
+        fn () => new Assignments(['a' => $secret, 5 => $secret]),
+        fn () => new Assignments([['a', $secret], [$secret]]),
     ];
     ini_set('zend.exception_ignore_args', '0');
     foreach ($calls as $number => $call) {
