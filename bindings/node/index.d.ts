@@ -21,6 +21,20 @@ export class Identifier {
   readonly parts: readonly string[]
 }
 
+/** A column: a string is one name. */
+export type Column = string | Identifier
+
+/**
+ * Columns and what they are set to, for `SET ?`: `new Assignments({ price: 7 })`. Of an object each own property is a column of one
+ * name. In an array or a Map of pairs a column may be an Identifier too.
+ */
+export class Assignments {
+  constructor(
+    assigned: { readonly [column: string]: Item } | ReadonlyMap<Column, Item> | ReadonlyArray<readonly [column: Column, value: Item]>
+  )
+  readonly pairs: ReadonlyArray<readonly [column: Identifier, value: Item]>
+}
+
 /** The keywords that are written. */
 export const KEYWORDS: readonly string[]
 
@@ -33,11 +47,18 @@ export class Keyword {
 /** One value. A finite number that isn't whole is a DOUBLE; a `bigint` beyond 64 bits is an exact number. */
 export type Value = null | boolean | number | bigint | string | Uint8Array | Date | Double
 
-/** What may stand in a list or a row. */
+/** What may stand in a list or a row, and what a column may be set to. */
 export type Item = Value | Decimal
 
-/** What may stand in a place: also a list, as for `IN (?)`, rows, as for `VALUES ?`, a name and a keyword. */
-export type Fragment = Item | readonly Item[] | ReadonlyArray<readonly Item[]> | Identifier | Keyword
+/** What may stand in a place: also a list, as for `IN (?)`, rows, as for `VALUES ?`, a name or several, assignments, a keyword. */
+export type Fragment =
+  | Item
+  | readonly Item[]
+  | ReadonlyArray<readonly Item[]>
+  | Identifier
+  | readonly Identifier[]
+  | Assignments
+  | Keyword
 
 /** Values in order, or by name. */
 export type Params<V = Fragment> = null | undefined | readonly V[] | { readonly [name: string]: V } | ReadonlyMap<string, V>

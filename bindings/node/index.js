@@ -4,12 +4,13 @@
 
 const calls = require('./lib/calls.js')
 const { BindError, SessionError } = require('./lib/errors.js')
-const { Decimal, Double, Identifier, KEYWORDS, Keyword } = require('./lib/fragments.js')
+const { Assignments, Decimal, Double, Identifier, KEYWORDS, Keyword } = require('./lib/fragments.js')
 const { bindRows } = require('./lib/rows.js')
 const { askAgain, execute, query } = require('./lib/sending.js')
 const { Template } = require('./lib/template.js')
 
 module.exports = {
+  Assignments,
   BindError,
   Decimal,
   Double,

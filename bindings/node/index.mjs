@@ -2,6 +2,7 @@
 import mysqlParams from './index.js'
 
 export const {
+  Assignments,
   BindError,
   Decimal,
   Double,

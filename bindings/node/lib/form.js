@@ -2,9 +2,10 @@
 // The flat form of parameters, as mysql_params.h describes it, written into one buffer that crosses the border once.
 
 const { isDate, isMap, isUint8Array } = require('node:util/types')
-const { digitsOf, numberOf, partsOf, wordOf } = require('./fragments.js')
+const { digitsOf, numberOf, pairsOf, partsOf, wordOf } = require('./fragments.js')
 const dates = require('./dates.js')
-const { itemRefusal, rowRefusal, valueRefusal } = require('./refused.js')
+const { otherOf } = require('./objects.js')
+const { assignedRefusal, itemRefusal, nameRefusal, rowRefusal, valueRefusal } = require('./refused.js')
 
 // Numbers of column types in the protocol, and of the types that the calls that bind fragments alone take.
 const DOUBLE = 5
@@ -17,6 +18,8 @@ const ROWS = 130
 const IDENTIFIER = 131
 const QUALIFIED = 132
 const KEYWORD = 133
+const IDENTIFIERS = 134
+const ASSIGNMENTS = 135
 const VAR_STRING = 253
 const UNSIGNED = 128
 
@@ -334,29 +337,74 @@ function writeRows(form, rows, place) {
   }
 }
 
-function writeIdentifier(form, value, parts, place) {
-  form.type(parts.length === 1 ? IDENTIFIER : QUALIFIED, 0)
-  if (parts.length > 1) writeCount(form, parts.length)
-  for (const part of parts) if (!form.text(part)) throw valueRefusal(form, value, place)
+/** Appends the count of names, and these. False for one with a lone surrogate. */
+function writeNames(form, parts) {
+  writeCount(form, parts.length)
+  return parts.every((part) => form.text(part))
 }
 
-/** Appends what is more than a value, and no item: an array, an identifier, a keyword. False of any other object. */
+function writeIdentifier(form, parts) {
+  form.type(parts.length === 1 ? IDENTIFIER : QUALIFIED, 0)
+  return parts.length === 1 ? form.text(parts[0]) : writeNames(form, parts)
+}
+
+/** Whether an item is an identifier. */
+function isIdentifier(item) {
+  return typeof item === 'object' && item !== null && partsOf(item) !== undefined
+}
+
+function writeIdentifiers(form, items, place) {
+  form.type(IDENTIFIERS, 0)
+  const count = items.length
+  writeCount(form, count)
+  for (let i = 0; i < count; i++) {
+    const item = items[i]
+    if (!isIdentifier(item)) throw nameRefusal(place, i)
+    if (!writeNames(form, partsOf(item))) throw itemRefusal(form, item, place, i, undefined)
+  }
+}
+
+/** Appends assignments. False for a column with a lone surrogate. */
+function writeAssignments(form, pairs, place) {
+  form.type(ASSIGNMENTS, 0)
+  writeCount(form, pairs.length)
+  for (const [column, value] of pairs) {
+    const parts = partsOf(column)
+    if (!writeNames(form, parts)) return false
+    if (!writeItem(form, value)) throw assignedRefusal(form, value, place, parts)
+  }
+  return true
+}
+
+function writeKeyword(form, word) {
+  form.type(KEYWORD, 0)
+  return form.text(word)
+}
+
+/** Appends an array: a list, or rows or identifiers, as its first item says. */
+function writeArray(form, items, place) {
+  const first = items.length > 0 ? items[0] : undefined
+  if (Array.isArray(first)) writeRows(form, items, place)
+  else if (isIdentifier(first)) writeIdentifiers(form, items, place)
+  else writeList(form, items, place)
+}
+
+/** Appends what is more than a value, and no item: an array, an identifier, assignments, a keyword. False of any other object. */
 function writeFragment(form, value, place) {
   if (form.len + 8 > form.size) form.grow(8)
   if (Array.isArray(value)) {
-    if (value.length > 0 && Array.isArray(value[0])) writeRows(form, value, place)
-    else writeList(form, value, place)
+    writeArray(form, value, place)
     return true
   }
   const parts = partsOf(value)
-  if (parts !== undefined) {
-    writeIdentifier(form, value, parts, place)
-    return true
-  }
-  const word = wordOf(value)
-  if (word === undefined) return false
-  form.type(KEYWORD, 0)
-  if (!form.text(word)) throw valueRefusal(form, value, place)
+  const pairs = parts === undefined ? pairsOf(value) : undefined
+  const word = parts === undefined && pairs === undefined ? wordOf(value) : undefined
+  let isWritten
+  if (parts !== undefined) isWritten = writeIdentifier(form, parts)
+  else if (pairs !== undefined) isWritten = writeAssignments(form, pairs, place)
+  else if (word !== undefined) isWritten = writeKeyword(form, word)
+  else return false
+  if (!isWritten) throw valueRefusal(form, value, place)
   return true
 }
 
@@ -476,16 +524,6 @@ function writeInOrder(form, params) {
   }
 }
 
-/** Throws for an object whose own properties are no parameters. */
-function judgeParams(params) {
-  const kind = Object.prototype.toString.call(params).slice(8, -1)
-  const to_do = 'parameters are an array, an object of names, or a Map'
-  if (typeof params.then === 'function') throw new TypeError(`${to_do}, and not a Promise: await it`)
-  if (ArrayBuffer.isView(params) || Symbol.iterator in params || kind !== 'Object') {
-    throw new TypeError(`${to_do}, and not a ${kind === 'Object' ? params.constructor?.name ?? 'iterable' : kind}`)
-  }
-}
-
 /** Appends all parameters of a query. */
 function writeParams(form, params) {
   if (params === undefined || params === null) return
@@ -500,8 +538,8 @@ function writeParams(form, params) {
     for (const [name, value] of params) writeNamed(form, name, value)
     return
   }
-  const prototype = Object.getPrototypeOf(params)
-  if (prototype !== Object.prototype && prototype !== null) judgeParams(params)
+  const other = otherOf(params)
+  if (other !== undefined) throw new TypeError(`parameters are an array, an object of names, or a Map, and not ${other}`)
   writeObject(form, params)
 }
 

@@ -1,8 +1,11 @@
 'use strict'
-// What stands in a place beside the values of JavaScript: exact numbers, doubles, identifiers and keywords.
+// What stands in a place beside the values of JavaScript: exact numbers, doubles, identifiers, assignments and keywords.
+
+const { isMap } = require('node:util/types')
+const { otherOf } = require('./objects.js')
 
 // Each reads the field of a value of its class, which nothing else has; undefined of any other object.
-let digitsOf, numberOf, partsOf, wordOf
+let digitsOf, numberOf, pairsOf, partsOf, wordOf
 
 /** An exact number of its digits, as `new Decimal('9.99')`: it is written bare, so that a server computes it exactly. */
 class Decimal {
@@ -49,7 +52,7 @@ class Double {
 
 /**
  * The name of a table or a column, and before it that of what it is in: `new Identifier('db', 't')`. It is written in
- * backquotes. A point in a name is a part of it.
+ * backquotes. A point in a name is a part of it. An array of them is written with commas in between.
  */
 class Identifier {
   #parts
@@ -68,6 +71,52 @@ class Identifier {
 
   static {
     partsOf = (value) => (#parts in value ? value.#parts : undefined)
+  }
+}
+
+const MADE_OF = 'Assignments are made of an object of columns, or of an array or a Map of pairs: a column and a value'
+
+/** The pairs that assignments are made of, as they are given. */
+function givenPairs(assigned) {
+  if (Array.isArray(assigned) || isMap(assigned)) return assigned
+  if (typeof assigned !== 'object' || assigned === null) {
+    throw new TypeError(`${MADE_OF}, and not of ${assigned === null ? 'null' : `type ${typeof assigned}`}`)
+  }
+  const other = otherOf(assigned)
+  if (other !== undefined) throw new TypeError(`${MADE_OF}, and not of ${other}`)
+  return Object.entries(assigned)
+}
+
+/** A column and what it is set to, which can't be changed. */
+function pairOf(pair) {
+  if (!Array.isArray(pair) || pair.length !== 2) throw new TypeError(MADE_OF)
+  const [column, value] = pair
+  if (typeof column === 'string') return Object.freeze([new Identifier(column), value])
+  if (typeof column !== 'object' || column === null || partsOf(column) === undefined) {
+    throw new TypeError('a column is a string, which is one name, or an Identifier')
+  }
+  return Object.freeze([column, value])
+}
+
+/**
+ * Columns and what they are set to, for `SET ?`: `new Assignments({ price: 7, sold: null })`. Of an object each own property is a
+ * column of one name. In an array or a Map of pairs a column may be an Identifier too: `[new Identifier('t', 'price'), 7]`. A
+ * column is set to what may stand in a list.
+ */
+class Assignments {
+  #pairs
+
+  constructor(assigned) {
+    this.#pairs = Object.freeze(Array.from(givenPairs(assigned), pairOf))
+  }
+
+  /** The columns, and what they are set to. */
+  get pairs() {
+    return this.#pairs
+  }
+
+  static {
+    pairsOf = (value) => (#pairs in value ? value.#pairs : undefined)
   }
 }
 
@@ -106,4 +155,4 @@ class Keyword {
   }
 }
 
-module.exports = { Decimal, Double, Identifier, KEYWORDS, Keyword, digitsOf, numberOf, partsOf, wordOf }
+module.exports = { Assignments, Decimal, Double, Identifier, KEYWORDS, Keyword, digitsOf, numberOf, pairsOf, partsOf, wordOf }

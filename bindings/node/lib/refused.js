@@ -1,9 +1,10 @@
 'use strict'
 // Why a value can't be written, by its name: a TypeError or a RangeError. No message shows a value.
 
-const { isAnyArrayBuffer, isBoxedPrimitive, isDate, isPromise } = require('node:util/types')
-const { digitsOf, partsOf, wordOf } = require('./fragments.js')
+const { isAnyArrayBuffer, isBoxedPrimitive, isDate, isMap, isPromise } = require('node:util/types')
+const { digitsOf, pairsOf, partsOf, wordOf } = require('./fragments.js')
 const dates = require('./dates.js')
+const { otherOf } = require('./objects.js')
 
 /** A name as messages show it: other than printable ASCII, `"` and `\` as `\x` and two digits of each byte. */
 function show(name) {
@@ -22,10 +23,27 @@ function placeText(place) {
 const MORE_DIGITS = [RangeError, 'has more than 65 digits, of which servers keep no more']
 const BEYOND_SAFE = 'is a whole number beyond 2^53, which a number may not hold exactly: give a BigInt, or a new Double(..)'
 const ONLY_VALUES = 'and this call takes only values: bind and bindAnywhere take it'
+const ALONE = {
+  rows: 'give a list of values, or one of rows alone',
+  names: 'give a list of values, or one of Identifiers alone'
+}
 const NO_UTF8 = 'a lone surrogate, which has no UTF-8'
 
-/** What an object is called, and what to give instead. */
-function ofObject(value) {
+/** What is called what the package makes that is more than a value; undefined of any other object. */
+function kindOf(value) {
+  if (partsOf(value) !== undefined) return 'an Identifier'
+  if (pairsOf(value) !== undefined) return 'of type Assignments'
+  return wordOf(value) === undefined ? undefined : 'a Keyword'
+}
+
+/** Whether the names of an Identifier or of columns, or a Keyword, have a lone surrogate. */
+function hasSurrogate(value) {
+  const columns = pairsOf(value)?.flatMap(([column]) => partsOf(column))
+  return (partsOf(value) ?? columns ?? [wordOf(value)]).some((text) => /\p{Surrogate}/u.test(text))
+}
+
+/** What an object is called, and what to give instead, also for a place that takes assignments. */
+function ofObject(value, takesAssignments) {
   if (Array.isArray(value)) return 'is an array, which stands in a place by itself: it is no value, and no item of a row'
   if (ArrayBuffer.isView(value) || isAnyArrayBuffer(value)) {
     return `is of type ${Object.prototype.toString.call(value).slice(8, -1)}, which has no literal: give a Buffer of its bytes`
@@ -35,17 +53,18 @@ function ofObject(value) {
   if (typeof value.toSqlString === 'function') {
     return 'is an object with toSqlString: the words of a query stand in the query, so give an Identifier or a Keyword'
   }
-  return 'is an object, which has no literal: give JSON.stringify(..) of it'
+  const hasColumns = takesAssignments && (isMap(value) || otherOf(value) === undefined)
+  const toDo = hasColumns ? 'for SET give new Assignments(..) of it, else' : 'give'
+  return `is an object, which has no literal: ${toDo} JSON.stringify(..) of it`
 }
 
 /** Why a date, or what the package makes itself, is refused; undefined of any other object. */
 function ofOwn(form, value) {
   if (isDate(value)) return [form.zone === undefined ? TypeError : RangeError, dates.faultOf(value, form.zone)]
-  const parts = partsOf(value)
-  if (parts !== undefined || wordOf(value) !== undefined) {
-    const kind = parts === undefined ? 'a Keyword' : 'an Identifier'
-    const isText = [wordOf(value) ?? '', ...(parts ?? [])].every((text) => !/\p{Surrogate}/u.test(text))
-    return [TypeError, isText ? `is ${kind}, which is no value: write a place for it` : `is ${kind} with ${NO_UTF8}`]
+  const kind = kindOf(value)
+  if (kind !== undefined) {
+    if (!form.takesMore) return [TypeError, `is ${kind}, ${ONLY_VALUES}`]
+    return [TypeError, hasSurrogate(value) ? `is ${kind} with ${NO_UTF8}` : `is ${kind}, which is no value: write a place for it`]
   }
   const digits = digitsOf(value)
   if (digits === undefined) return undefined
@@ -54,7 +73,7 @@ function ofOwn(form, value) {
 }
 
 /** Why a value has no literal: the kind of the error, and what it says of the value. */
-function reason(form, value) {
+function reason(form, value, takesAssignments = false) {
   switch (typeof value) {
     case 'string':
       return [TypeError, `is a string with ${NO_UTF8}`]
@@ -66,7 +85,7 @@ function reason(form, value) {
     case 'undefined':
       return [TypeError, 'is undefined: give null for NULL']
     case 'object':
-      return ofOwn(form, value) ?? [TypeError, ofObject(value)]
+      return ofOwn(form, value) ?? [TypeError, ofObject(value, takesAssignments)]
     default:
       return [TypeError, `is a ${typeof value}, which has no literal`]
   }
@@ -74,20 +93,41 @@ function reason(form, value) {
 
 /** Returns why the value for a place can't be written. */
 function valueRefusal(form, value, place) {
-  const [Kind, said] = reason(form, value)
+  const [Kind, said] = reason(form, value, form.takesMore)
   return new Kind(`${placeText(place)} ${said}`)
+}
+
+/** Why an item of a list has to stand among others of its kind; undefined of a value. */
+function ofMixed(value) {
+  if (Array.isArray(value)) return `is an array: ${ALONE.rows}`
+  const isName = typeof value === 'object' && value !== null && partsOf(value) !== undefined
+  return isName && !hasSurrogate(value) ? `is an Identifier: ${ALONE.names}` : undefined
 }
 
 /** Returns the same of an item of a list, or of a row. */
 function itemRefusal(form, value, place, item, row) {
-  const isRow = row === undefined && Array.isArray(value)
-  const [Kind, said] = isRow ? [TypeError, 'is an array: give a list of values, or one of rows alone'] : reason(form, value)
+  const mixed = row === undefined ? ofMixed(value) : undefined
+  const [Kind, said] = mixed === undefined ? reason(form, value) : [TypeError, mixed]
   return new Kind(`item ${item}${row === undefined ? '' : ` of row ${row}`} of ${placeText(place)} ${said}`)
 }
 
 /** Returns why rows have one that is none. */
 function rowRefusal(place, row) {
-  return new TypeError(`row ${row} of ${placeText(place)} is no array: give a list of values, or one of rows alone`)
+  return new TypeError(`row ${row} of ${placeText(place)} is no array: ${ALONE.rows}`)
 }
 
-module.exports = { itemRefusal, rowRefusal, show, valueRefusal }
+/** Returns why identifiers have one that is none. */
+function nameRefusal(place, item) {
+  return new TypeError(`item ${item} of ${placeText(place)} is no Identifier: ${ALONE.names}`)
+}
+
+/** Returns why a column of these names can't be set to a value. */
+function assignedRefusal(form, value, place, parts) {
+  const column = parts.map((part) => `\`${show(part)}\``).join('.')
+  const isObject = typeof value === 'object' && value !== null
+  const kind = Array.isArray(value) ? 'an array' : isObject ? kindOf(value) : undefined
+  const [Kind, said] = kind === undefined ? reason(form, value) : [TypeError, `is ${kind}: a column takes one value`]
+  return new Kind(`${placeText(place)} sets ${column} to a value that ${said}`)
+}
+
+module.exports = { assignedRefusal, itemRefusal, nameRefusal, rowRefusal, show, valueRefusal }

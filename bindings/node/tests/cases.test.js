@@ -94,8 +94,9 @@ file('bind.txt', (found) => {
 })
 
 file('fragments.txt', (found) => {
-  expectBoth(found, (query) => mysqlParams.bind(query, givenOf(found.params), found.options))
-  expectBoth(found, (query) => new Template(query, found.options).bind(givenOf(found.params)))
+  const options = { ...found.options, ...UTC }
+  expectBoth(found, (query) => mysqlParams.bind(query, givenOf(found.params), options))
+  expectBoth(found, (query) => new Template(query, found.options).bind(givenOf(found.params), UTC))
 })
 
 file('forms.txt', (found) => {

@@ -5,7 +5,7 @@ const assert = require('node:assert/strict')
 const { test } = require('node:test')
 const { mysqlParams } = require('./shared_cases.js')
 
-const { BindError, Decimal, Identifier, Template, bind, bindAnywhere, bindInBothModes } = mysqlParams
+const { Assignments, BindError, Decimal, Identifier, Template, bind, bindAnywhere, bindInBothModes } = mysqlParams
 
 /** What a call gives, or what it throws, as one text. */
 function told(call) {
@@ -46,6 +46,9 @@ test('values by name in any order, and others', () => {
       { a: 1, c: 3, b: 2 }),
     { a: "it's", b: 'é', c: Buffer.from([255]) }, { a: [1, 'a'], b: [[1], [2]], c: new Identifier('x') }, { a: 0.5,
       b: new Decimal('1.5'), c: 2n ** 70n },
+    { a: [new Identifier('x'), new Identifier('t', 'y')], b: new Assignments({ b: 1 }), c: new Assignments([['b', "it's"]]) },
+    { a: [new Identifier('x'), 1], b: 1, c: 2 }, { a: 1, b: new Assignments({}), c: [] }, { a: new Assignments({ b: [] }), b: 1,
+      c: 2 },
     { a: 1, b: undefined, c: 3 }, { c: {}, b: undefined, a: 1 }, { a: 1, b: 2, c: 3, d: undefined }, { a: [1, undefined], b: 1,
       c: 2 }, { a: NaN, b: 1, c: [] },
     { a: [], b: NaN, c: 1 }, { a: '\ud800', b: 1, c: 1 }, { a: 2 ** 53, b: 1, c: 1 }, 'x', 5, new Date(),

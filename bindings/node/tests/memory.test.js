@@ -1,20 +1,25 @@
 'use strict'
-// No call keeps memory: each kind of answer and of refusal, CALLS times (40,000, so that all are more than a million). The heap
-// of JavaScript, the memory of its buffers and that of the process stay as they were. It needs `node --expose-gc`.
+// No call keeps memory: each kind of answer and of refusal, CALLS / 10 times, and CALLS times if that leaves more than noise does
+// (40,000). The heap of JavaScript, the memory of its buffers and that of the process stay as they were. It needs
+// `node --expose-gc`.
 
 const assert = require('node:assert/strict')
 const { test } = require('node:test')
 const { mysqlParams } = require('./shared_cases.js')
 
-const { Decimal, Double, Identifier, Keyword, Template, bind, bindAnywhere, bindForm, bindInBothModes, bindRows } = mysqlParams
+const { Assignments, Decimal, Double, Identifier, Keyword, Template, bind, bindAnywhere, bindForm, bindInBothModes,
+  bindRows } = mysqlParams
 
 const CALLS = Number(process.env.CALLS ?? 40000)
+// What all calls may leave; fewer may leave a share of it.
 const MORE_HEAP = 1 << 20
 const MORE_RSS = 12 << 20
 
 const VALUES = [null, true, 7, 2n ** 63n, 0.5, "it's", 'é', Buffer.from([255]), new Date(0), new Decimal('1.5'), new Double(2),
   2n ** 70n]
-const MORE = [...VALUES, [1, 'a', null], [[1, 2], [3, 'é']], new Identifier('a', 'b'), new Keyword('ASC', ['ASC'])]
+const NAMES = [new Identifier('a'), new Identifier('t', 'b')]
+const MORE = [...VALUES, [1, 'a', null], [[1, 2], [3, 'é']], NAMES[1], new Keyword('ASC', ['ASC']), NAMES,
+  new Assignments([['a', "it's"], [NAMES[1], 2n ** 70n]])]
 const MARKS = MORE.map(() => '?').join()
 const UTC = { timezone: 'Z' }
 const NAMED = { a: 1, b: "it's" }
@@ -28,6 +33,7 @@ const ANSWERS = {
   'without escapes': () => bind(':a, :b', NAMED, { noBackslashEscape: true }),
   anywhere: () => bindAnywhere(MARKS, MORE, UTC),
   'both modes': () => bindInBothModes('?, ?', [1, 'é']),
+  assignments: () => bind('SET :set', { set: new Assignments({ a: 1, b: 'é', c: null }) }),
   bytes: () => bind(Buffer.from('?'), [1]),
   form: () => bindForm('?', form('000600')),
   template: () => TEMPLATE.bind({ a: [1, 2] }),
@@ -58,6 +64,9 @@ const REFUSALS = {
   19: () => bindAnywhere('?', [new Identifier('ä')]),
   value: () => bind('?', [{ a: 1 }]),
   item: () => bind('?', [[1, undefined]]),
+  'item of identifiers': () => bind('?', [[NAMES[0], 1]]),
+  assigned: () => bind('?', [new Assignments({ a: 1, b: [1] })]),
+  'no assignments': () => new Assignments(new Set()),
   'lone surrogate': () => bind('?', ['\ud800']),
   query: () => bind('\ud800'),
   row: () => bindRows('?', [[1], [1, 2]]),
@@ -96,33 +105,33 @@ async function held() {
 async function judge(name, call, count) {
   repeat(call, count / 10)
   let more
-  for (let tries = 0; tries < 3; tries++) {
+  for (const share of [0.1, 1, 1, 1]) {
     const before = await held()
-    repeat(call, count)
+    repeat(call, share * count)
     const after = await held()
     more = { heap: after.heap - before.heap, rss: after.rss - before.rss }
-    if (more.heap < MORE_HEAP && more.rss < MORE_RSS) return
+    if (more.heap < share * MORE_HEAP && more.rss < share * MORE_RSS) return
   }
   assert.fail(`${name}: ${count} calls leave ${more.heap} bytes more on the heap, and ${more.rss} of the process`)
 }
 
 const skip = typeof gc === 'function' ? false : 'node --expose-gc is wanted'
 
-test(`answers, ${CALLS} times each`, { skip }, async () => {
+test(`answers, up to ${CALLS} times each`, { skip }, async () => {
   for (const [name, call] of Object.entries(ANSWERS)) {
     call()
     await judge(name, call, CALLS)
   }
 })
 
-test(`refusals, ${CALLS} times each`, { skip }, async () => {
+test(`refusals, up to ${CALLS} times each`, { skip }, async () => {
   for (const [name, call] of Object.entries(REFUSALS)) {
     assert.throws(call, (error) => (/^\d/.test(name) ? error.code === Number(name) : error instanceof Error))
     await judge(name, call, CALLS)
   }
 })
 
-test(`long calls, ${CALLS / 100} times each`, { skip }, async () => {
+test(`long calls, up to ${CALLS / 100} times each`, { skip }, async () => {
   for (const [name, call] of Object.entries(LONG_CALLS)) await judge(name, call, CALLS / 100)
 })
 

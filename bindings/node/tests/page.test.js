@@ -78,7 +78,7 @@ function rowsOf(head) {
 
 /** The value of an example, which may name the classes of the package. */
 function valueOf(text) {
-  const program = `({ Decimal, Double, Identifier, Keyword }) => (${text})`
+  const program = `({ Assignments, Decimal, Double, Identifier, Keyword }) => (${text})`
   return vm.runInThisContext(program)(mysqlParams)
 }
 
@@ -129,7 +129,8 @@ test('what node-mysql does there', { skip: why === null || why.startsWith('maria
   assert.equal(format('password = ?', [{ password: 1 }]), 'password = `password` = 1')
   assert.equal(format('?, ?', [undefined, NaN]), 'NULL, NaN')
   assert.equal(format("'?' /* ? */", [1, 2]), "'1' /* 2 */")
-  assert.equal(format('??', ['a']), '`a`')
+  assert.equal(format('SET ?', [{ a: 1, b: 'x' }]), "SET `a` = 1, `b` = 'x'")
+  assert.equal(format('??, ??', ['a', ['a', 'b']]), '`a`, `a`, `b`')
   assert.equal(format('?, ?', [1]), '1, ?')
   assert.equal(format('?, ?', [1.5, 1e21]), '1.5, 1e+21')
   const date = new Date(2019, 0, 2, 3, 4, 5)

@@ -21,6 +21,10 @@ function missing() {
   return null
 }
 
+function isRunning(server) {
+  return server.exitCode === null && server.signalCode === null
+}
+
 /** Starts a server; it refuses to be root, so then it is nobody's. */
 async function start() {
   const folder = fs.mkdtempSync(path.join(os.tmpdir(), 'mysql-params-'))
@@ -39,13 +43,25 @@ async function start() {
     '--skip-networking', '--character-set-server=utf8mb4', '--innodb-buffer-pool-size=32M',
       '--innodb-flush-log-at-trx-commit=0']
   const server = spawn('mariadbd', words, { env, stdio: 'ignore' })
-  const stop = async () => {
-    const ended = new Promise((resolve) => server.once('exit', resolve))
-    if (server.exitCode === null && server.kill()) await ended
-    fs.rmSync(folder, { recursive: true, force: true })
+  const remove = () => fs.rmSync(folder, { recursive: true, force: true, maxRetries: 5 })
+  // However the tests end, no server is left.
+  const kill = () => {
+    server.kill('SIGKILL')
+    remove()
   }
-  for (let i = 0; i < 600 && !fs.existsSync(socket); i++) {
-    if (server.exitCode !== null) throw new Error('mariadbd ended')
+  process.once('exit', kill)
+  for (const signal of ['SIGHUP', 'SIGINT', 'SIGTERM']) process.once(signal, () => process.exit(1))
+  const stop = async () => {
+    process.off('exit', kill)
+    const ended = new Promise((resolve) => server.once('exit', resolve))
+    if (isRunning(server) && server.kill()) await ended
+    remove()
+  }
+  for (let i = 0; !fs.existsSync(socket); i++) {
+    if (!isRunning(server) || i === 600) {
+      await stop()
+      throw new Error(`mariadbd ${i === 600 ? "isn't ready within a minute" : 'ended'}`)
+    }
     await sleep(100)
   }
   return { socket, stop }

@@ -7,7 +7,8 @@ const { promisify } = require('node:util')
 const { mysqlParams } = require('./shared_cases.js')
 const server = require('./server.js')
 
-const { BindError, Decimal, Double, Identifier, Keyword, SessionError, askAgain, bindAnywhere, execute, query } = mysqlParams
+const { Assignments, BindError, Decimal, Double, Identifier, Keyword, SessionError, askAgain, bindAnywhere, execute,
+  query } = mysqlParams
 
 let mysql
 let why = server.missing()
@@ -117,6 +118,26 @@ test('many rows, names and keywords', { skip }, async () => {
   const [found] = await query(connection, 'SELECT id, :column AS name FROM :table ORDER BY id :order', { table, column,
     order: new Keyword('DESC', ['ASC', 'DESC']) })
   assert.deepEqual(found.map(({ id, name }) => [id, name]).reverse(), rows)
+})
+
+test('columns, and what they are set to', { skip }, async () => {
+  const connection = connect({ database: 'd' })
+  await plain(connection, "CREATE TABLE `a``b` (id INT PRIMARY KEY, `c``d` VARCHAR(200) DEFAULT 'old', `e, f` DECIMAL(10, 2))")
+  const table = new Identifier('a`b')
+  const [id, text] = [new Identifier('id'), new Identifier('a`b', 'c`d')]
+  await execute(connection, 'INSERT INTO :table (:columns) VALUES :rows', { table, columns: [id, text], rows: [[1, 'x'], [2, 'y']] })
+  const assigned = { 'c`d': "', `e, f` = 7 -- ", 'e, f': new Decimal('9.99') }
+  for (const mode of MODES) {
+    await plain(connection, `SET sql_mode = '${mode}'`)
+    await execute(connection, 'UPDATE :table SET :set WHERE id = :id', { table, set: new Assignments(assigned), id: 1 })
+    const [rows] = await query(connection, 'SELECT :columns, `e, f` FROM :table ORDER BY id', { table, columns: [id, text] })
+    assert.deepEqual(rows.map((row) => Object.values(row).map(String)), [['1', assigned['c`d'], '9.99'], ['2', 'y', 'null']])
+    await plain(connection, 'UPDATE `a``b` SET `c``d` = NULL, `e, f` = NULL WHERE id = 1')
+  }
+  const set = new Assignments([[id, 2], [text, "it's"]])
+  await execute(connection, 'INSERT INTO ? SET ? ON DUPLICATE KEY UPDATE ?', [table, set, set])
+  const [[{ found }]] = await query(connection, 'SELECT ? AS found FROM ? WHERE id = 2', [text, table])
+  assert.equal(found, "it's")
 })
 
 /** The questions that a connection's server was asked since then. */

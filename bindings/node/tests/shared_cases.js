@@ -64,6 +64,33 @@ function timeOf([sign, ...fields]) {
   return new FormValue(11, 0, bytes)
 }
 
+/** The text that says a time, as `-026:03:04.000005`, which is what JavaScript gives where a value has to stand in no form. */
+function timeText([sign, ...fields]) {
+  const [days, hours, minutes, seconds, microseconds] = fields.map(Number)
+  const two = (number) => String(number).padStart(2, '0')
+  const whole = `${String(24 * days + hours).padStart(3, '0')}:${two(minutes)}:${two(seconds)}`
+  return `${sign === '-' ? '-' : ''}${whole}${microseconds > 0 ? `.${String(microseconds).padStart(6, '0')}` : ''}`
+}
+
+/** The identifier of names with bars between them. */
+function identifierOf(text) {
+  return new mysqlParams.Identifier(...text.split('|').map((part) => bytesOf(part).toString()))
+}
+
+/** A column and what it is set to. A column of one name is a string. */
+function pairOf(text) {
+  const at = text.indexOf('=')
+  const column = identifierOf(text.slice(0, at))
+  const value = text.slice(at + 1)
+  const assigned = value.startsWith('time:') ? timeText(value.slice('time:'.length).split(' ')) : valueOf(value)
+  return [column.parts.length === 1 ? column.parts[0] : column, assigned]
+}
+
+/** What several texts say, which two bars stand between. */
+function severalOf(text, one) {
+  return text === '' ? [] : text.split('||').map(one)
+}
+
 function numberOf(text) {
   return { nan: NaN, inf: Infinity, '-inf': -Infinity }[text] ?? Number(text)
 }
@@ -84,7 +111,9 @@ function valueOf(text) {
     case 'list': return rest === '' ? [] : rest.split('|').map(valueOf)
     case 'rows': return rest.split('||').map((row) => row.split('|').map(valueOf))
     case 'identifier':
-    case 'qualified': return new mysqlParams.Identifier(...rest.split('|').map((part) => bytesOf(part).toString()))
+    case 'qualified': return identifierOf(rest)
+    case 'identifiers': return severalOf(rest, identifierOf)
+    case 'assignments': return new mysqlParams.Assignments(severalOf(rest, pairOf))
     case 'keyword': return new mysqlParams.Keyword(rest, [rest, 'ASC'])
     case 'date': return dateOf(rest.split(' ').map(Number))
     case 'time': return timeOf(rest.split(' '))

@@ -1,6 +1,6 @@
 // Callers that TypeScript has to take, and those that it has to refuse.
 import mysqlParams = require('mysql-params')
-import { BindError, Decimal, Double, Identifier, Keyword, SessionError, Template, bind, bindAnywhere,
+import { Assignments, BindError, Decimal, Double, Identifier, Keyword, SessionError, Template, bind, bindAnywhere,
   bindInBothModes } from 'mysql-params'
 import { askAgain, bindRows, execute, firstUnportable, names, query } from 'mysql-params'
 
@@ -11,6 +11,14 @@ const named: string = bindAnywhere('SELECT :a', { a: 'x', b: null, c: 1n, d: tru
 const mapped: string = bind(':a', new Map([['a', 1]]))
 const lists: string = bind('? ? ? ?', [[1, 'a', new Decimal('1.5')], [[1, 'a'], [2, 'b']], new Identifier('a', 'b'),
   new Keyword('ASC', ['ASC'])])
+const column = new Identifier('t', 'b')
+const columns: string = bind('INSERT INTO t (?) VALUES ?', [[new Identifier('a'), column], [[1, 'x']]])
+const assigned = new Assignments({ a: 1, b: 'x', c: null, d: new Decimal('1.5'), e: new Date(), f: Buffer.from('x') })
+const pairs = new Assignments([['a', 1], [column, 'x']])
+const map = new Assignments(new Map([['a', 1]]))
+const changed: string = bindAnywhere('UPDATE t SET :set WHERE id = :id', { set: assigned, id: 7 })
+const ofMap: string = bind('SET ?, ?', [map, new Assignments(new Map([[column, 'x']]))])
+const first: readonly [column: Identifier, value: unknown] | undefined = pairs.pairs[0]
 const plain: string = bindInBothModes('?', [new Double(1)], { timezone: 'local' })
 const rows: string[] = bindRows('?', [[1], [2]], { noBackslashEscape: true })
 const template: string = new Template('?').bind([1])
@@ -39,6 +47,22 @@ bind('?', [undefined])
 // @ts-expect-error
 bind('?', [{ password: 1 }])
 // @ts-expect-error
+bind('?', [[new Identifier('a'), 1]])
+// @ts-expect-error
+new Assignments({ a: undefined })
+// @ts-expect-error
+new Assignments({ a: [1] })
+// @ts-expect-error
+new Assignments([[1, 2]])
+// @ts-expect-error
+new Assignments('a')
+// @ts-expect-error
+new Assignments(column)
+// @ts-expect-error
+bindInBothModes('?', [assigned])
+// @ts-expect-error
+bind('?', [[assigned]])
+// @ts-expect-error
 bind(':a', { a: () => 1 })
 // @ts-expect-error
 bind('?', [Symbol('x')])
@@ -57,4 +81,5 @@ new Identifier()
 // @ts-expect-error
 query({}, 'SELECT 1')
 
+void [columns, changed, ofMap, first]
 void [text, bytes, named, mapped, lists, plain, rows, template, ofBytes, found, construct, all, sent]

@@ -6,7 +6,8 @@ const { test } = require('node:test')
 const vm = require('node:vm')
 const { mysqlParams } = require('./shared_cases.js')
 
-const { BindError, Decimal, Double, Identifier, Keyword, KEYWORDS, bind, bindAnywhere, bindInBothModes, bindRows } = mysqlParams
+const { Assignments, BindError, Decimal, Double, Identifier, Keyword, KEYWORDS, bind, bindAnywhere, bindInBothModes,
+  bindRows } = mysqlParams
 
 /** The literal of a value. */
 const literal = (value, options) => bind('?', [value], options)
@@ -293,21 +294,154 @@ test('identifiers and keywords', () => {
   assert.throws(() => new Keyword('ASC', 'ASC'), TypeError)
   assert.throws(() => new Keyword(['ASC'], ['ASC']), TypeError)
   assert.throws(() => bind('?', [new Keyword('desc', ['desc'])]), { code: 17, fault: 'KEYWORD' })
-  refusedItem(new Identifier('a'), TypeError, 'is an Identifier, which is no value: write a place for it')
   refusedItem(new Keyword('ASC', ['ASC']), TypeError, 'is a Keyword, which is no value: write a place for it')
   // What only looks like one is an object.
   for (const like of [Object.create(Identifier.prototype), Object.create(Decimal.prototype),
-    Object.create(Keyword.prototype)]) {
+    Object.create(Keyword.prototype), Object.create(Assignments.prototype)]) {
     assert.throws(() => bind('?', [like]), { name: 'TypeError', message: /is an object, which has no literal/ })
   }
 })
 
+test('lists of identifiers', () => {
+  const [a, b] = [new Identifier('a'), new Identifier('t', 'b`')]
+  for (const [value, wanted] of [[[a], '`a`'], [[a, b], '`a`, `t`.`b```'], [[a, a, a], '`a`, `a`, `a`']]) {
+    for (const call of [bind, bindAnywhere, (query, params) => new mysqlParams.Template(query).bind(params)]) {
+      assert.equal(call('?, ?', [value, 1]), `${wanted}, 1`)
+      assert.equal(call(':a', { a: value }), wanted)
+    }
+    assert.deepEqual(bindRows('SELECT ?', [[1], [value]]), ['SELECT 1', `SELECT ${wanted}`])
+  }
+  const many = Array.from({ length: 5000 }, (_, i) => new Identifier('t', `column ${i}`))
+  assert.equal(bind('?', [many]), many.map((_, i) => `\`t\`.\`column ${i}\``).join(', '))
+  const names = 'give a list of values, or one of Identifiers alone'
+  const no = 'is no value: write a place for it'
+  for (const [value, said] of [
+    [[1, a], `item 1 of the value of \`:a\` is an Identifier: ${names}`],
+    [[a, 1], `item 1 of the value of \`:a\` is no Identifier: ${names}`],
+    [[a, 'b'], `item 1 of the value of \`:a\` is no Identifier: ${names}`],
+    [[a, null], `item 1 of the value of \`:a\` is no Identifier: ${names}`],
+    [[a, b, [a]], `item 2 of the value of \`:a\` is no Identifier: ${names}`],
+    [[a, Object.create(Identifier.prototype)], `item 1 of the value of \`:a\` is no Identifier: ${names}`],
+    [[[1, a]], `item 1 of row 0 of the value of \`:a\` is an Identifier, which ${no}`],
+    [[a, new Identifier('t', '\ud800')],
+      'item 1 of the value of `:a` is an Identifier with a lone surrogate, which has no UTF-8']
+  ]) assert.throws(() => bind(':a', { a: value }), { name: 'TypeError', message: said })
+  assert.throws(() => bind('?', [[b, new Identifier('c\0')]]), { code: 17, fault: 'ZERO_BYTE', item: 2 })
+})
+
+test('assignments', () => {
+  const pairs = [['a`', "it's"], [new Identifier('t', 'b'), null]]
+  const ofPairs = "`a``` = 'it\\'s', `t`.`b` = NULL"
+  for (const [assigned, wanted] of [
+    [{ a: 1 }, '`a` = 1'],
+    [{ b: 2n ** 70n, a: true }, '`b` = 1180591620717411303424, `a` = 1'],
+    [Object.assign(Object.create(null), { 'a, b': new Decimal('1.50') }), '`a, b` = 1.50'],
+    [pairs, ofPairs],
+    [new Map(pairs), ofPairs],
+    [[['a', 0.5], ['b', new Double(2)], ['a', Buffer.from([255])]], '`a` = 0.5e0, `b` = 2.0e0, `a` = 0xFF'],
+    [JSON.parse('{"__proto__": 1, "constructor": "x"}'), "`__proto__` = 1, `constructor` = 'x'"],
+    [vm.runInNewContext('({ a: 1 })'), '`a` = 1'],
+    [vm.runInNewContext('[["a", 1]]'), '`a` = 1'],
+    [vm.runInNewContext('new Map([["a", 1]])'), '`a` = 1'],
+    [new (class Row { a = 1; get b() { return 2 } })(), '`a` = 1'],
+    [{ a: 'é'.repeat(40000), b: 1 }, `\`a\` = '${'é'.repeat(40000)}', \`b\` = 1`]
+  ]) {
+    const value = new Assignments(assigned)
+    for (const call of [bind, (query, params) => new mysqlParams.Template(query).bind(params)]) {
+      assert.equal(call('SET ? WHERE ?', [value, 1]), `SET ${wanted} WHERE 1`)
+      assert.equal(call('SET :a, :a', { a: value }), `SET ${wanted}, ${wanted}`)
+    }
+    assert.deepEqual(bindRows('SET ?', [[1], [value]]), ['SET 1', `SET ${wanted}`])
+  }
+  assert.equal(bindAnywhere('SET ?', [new Assignments({ a: "it's", b: 'é' })]),
+    "SET `a` = _utf8mb4'it''s', `b` = _utf8mb4 0xC3A9")
+  assert.equal(bind('SET ?', [new Assignments({ a: new Date(0) })], { timezone: 'Z' }), "SET `a` = '1970-01-01'")
+  // Of an object only own properties that can be enumerated, by a string, are columns.
+  const given = Object.defineProperty({ a: 1, [Symbol('b')]: 2 }, 'c', { value: 3 })
+  const value = new Assignments(given)
+  assert.deepEqual(value.pairs.map(([column, assigned]) => [column.parts, assigned]), [[['a'], 1]])
+  // What is changed later isn't seen.
+  given.d = 4
+  assert.throws(() => value.pairs.push(1), TypeError)
+  assert.throws(() => { value.pairs[0][1] = 2 }, TypeError)
+  assert.equal(bind('?', [value]), '`a` = 1')
+})
+
+test('assignments that are refused', () => {
+  const one = ': a column takes one value'
+  for (const [value, said] of [
+    [[1], `an array${one}`], [[], `an array${one}`], [new Identifier('t'), `an Identifier${one}`],
+    [new Keyword('NULL', ['NULL']), `a Keyword${one}`], [new Assignments({ b: 1 }), `of type Assignments${one}`],
+    [undefined, 'undefined: give null for NULL'],
+    [{ b: 1 }, 'an object, which has no literal: give JSON.stringify(..) of it'],
+    [() => 1, 'a function, which has no literal'],
+    ['\ud800', 'a string with a lone surrogate, which has no UTF-8'],
+    [new Date(0), "a Date: say by the option timezone which clock is written, 'Z', 'local' or an offset as '+02:00'"]
+  ]) {
+    for (const [column, shown] of [['aé', '`a\\xc3\\xa9`'], [new Identifier('t', 'b'), '`t`.`b`']]) {
+      const set = new Assignments([['x', 1], [column, value]])
+      for (const call of [bind, bindAnywhere]) {
+        assert.throws(() => call(':set', { set }), { name: 'TypeError',
+          message: `the value of \`:set\` sets ${shown} to a value that is ${said}` })
+      }
+    }
+  }
+  assert.throws(() => bind('?', [new Assignments({ a: 2 ** 53 })]), { name: 'RangeError',
+    message: /^the value for place 0 sets `a` to a value that is a whole number beyond 2\^53/ })
+  assert.throws(() => bind('?', [new Assignments({ a: 10n ** 65n })]), { name: 'RangeError',
+    message: 'the value for place 0 sets `a` to a value that has more than 65 digits, of which servers keep no more' })
+  assert.throws(() => bind('?', [new Assignments({ a: NaN })]), { code: 14, kind: 'FLOAT', place: 0 })
+  assert.throws(() => bind('?', [new Assignments({ '\ud800': 1 })]), { name: 'TypeError',
+    message: 'the value for place 0 is of type Assignments with a lone surrogate, which has no UTF-8' })
+  refusedItem(new Assignments({ a: 1 }), TypeError, 'is of type Assignments, which is no value: write a place for it')
+  for (const none of [{}, [], new Map()]) {
+    assert.throws(() => bind(':set', { set: new Assignments(none) }), { code: 17, fault: 'EMPTY',
+      message: "Fragment at place 0 can't be written: it is empty: the value of `:set`" })
+  }
+  assert.throws(() => bind('?', [new Assignments([[new Identifier('t', 'a'), 1], ['b\0', 2]])]), { code: 17,
+    fault: 'ZERO_BYTE', item: 2 })
+  const made = 'Assignments are made of an object of columns, or of an array or a Map of pairs: a column and a value'
+  for (const [assigned, said] of [[5, ', and not of type number'], ['ab', ', and not of type string'], [null, ', and not of null'],
+    [undefined, ', and not of type undefined'], [new Set(), ', and not of a Set'], [Buffer.from('x'), ', and not of a Uint8Array'],
+    [new URLSearchParams('a=1'), ', and not of a URLSearchParams'], [Promise.resolve({}), ', and not of a Promise: await it'],
+    [new Date(), ', and not of a Date'], [['ab'], ''], [[['a']], ''], [[['a', 1, 2]], ''], [new Array(1), '']]) {
+    assert.throws(() => new Assignments(assigned), { name: 'TypeError', message: made + said })
+  }
+  for (const column of [5, null, undefined, Buffer.from('a'), new Keyword('NULL', ['NULL']), Object.create(Identifier.prototype)]) {
+    for (const assigned of [[[column, 1]], new Map([[column, 1]])]) {
+      assert.throws(() => new Assignments(assigned), { name: 'TypeError',
+        message: 'a column is a string, which is one name, or an Identifier' })
+    }
+  }
+})
+
+test('forms of identifiers and assignments', () => {
+  // Written by hand from mysql_params.h, as the types 134 and 135.
+  const { Form, writeParams } = require(`${process.env.MYSQL_PARAMS}/lib/form.js`)
+  const form = new Form(1)
+  const column = new Identifier('t', 'b')
+  writeParams(form, { columns: [new Identifier('a'), column],
+    set: new Assignments([['a', 1], [column, 'x'], ['c', new Decimal('-1.50')]]) })
+  const count = (number) => Buffer.from([number, 0, 0, 0])
+  const wanted = Buffer.concat([
+    Buffer.from('\x07columns\x86\0', 'latin1'), count(2), count(1), Buffer.from('\x01a'), count(2), Buffer.from('\x01t\x01b'),
+    Buffer.from('\x03set\x87\0', 'latin1'), count(3), count(1), Buffer.from('\x01a\x08\0\x01\0\0\0\0\0\0\0'),
+    count(2), Buffer.from('\x01t\x01b\xfd\0\x01x', 'latin1'), count(1), Buffer.from('\x01c\x80\0\x05-1.50', 'latin1')
+  ])
+  assert.deepEqual(form.bytes.subarray(0, form.len), wanted)
+  assert.equal(form.isFragments, true)
+})
+
 test('what has no literal', () => {
   const json = 'is an object, which has no literal: give JSON.stringify(..) of it'
+  const columns = 'is an object, which has no literal: for SET give new Assignments(..) of it, else JSON.stringify(..) of it'
   refusedEverywhere(undefined, TypeError, 'is undefined: give null for NULL')
-  refusedEverywhere({ password: 1 }, TypeError, json)
-  for (const value of [{}, Object.create(null), new Set([1]), new Map(), new Error('x'), /x/,
-    { toString: () => '1' }]) refusedEverywhere(value, TypeError, json)
+  for (const value of [{ password: 1 }, {}, Object.create(null), new Map(), { toString: () => '1' }]) {
+    refused(value, TypeError, columns)
+    refusedItem(value, TypeError, json)
+    assert.throws(() => bindInBothModes(':a', { a: value }), { name: 'TypeError', message: `the value of \`:a\` ${json}` })
+  }
+  for (const value of [new Set([1]), new Error('x'), /x/]) refusedEverywhere(value, TypeError, json)
   refusedEverywhere(Symbol('x'), TypeError, 'is a symbol, which has no literal')
   refusedEverywhere(() => 1, TypeError, 'is a function, which has no literal')
   refusedEverywhere(class {}, TypeError, 'is a function, which has no literal')
@@ -319,7 +453,7 @@ test('what has no literal', () => {
     'is an object with toSqlString: the words of a query stand in the query, so give an Identifier or a Keyword')
   // node-mysql writes `password` = 1 for this one.
   assert.throws(() => bind('SELECT * FROM u WHERE password = :password', { password: { password: 1 } }), { name: 'TypeError',
-    message: `the value of \`:password\` ${json}` })
+    message: `the value of \`:password\` ${columns}` })
 })
 
 test('both modes take only values', () => {
@@ -328,8 +462,9 @@ test('both modes take only values', () => {
     [new Decimal('1.5'), TypeError, `is a Decimal, ${only}`],
     [2n ** 64n, RangeError, `is a whole number of more than 64 bits, ${only}`],
     [[1], TypeError, 'is an array, which stands in a place by itself: it is no value, and no item of a row'],
-    [new Identifier('a'), TypeError, 'is an Identifier, which is no value: write a place for it'],
-    [new Keyword('ASC', ['ASC']), TypeError, 'is a Keyword, which is no value: write a place for it']
+    [new Identifier('a'), TypeError, `is an Identifier, ${only}`],
+    [new Assignments({ a: 1 }), TypeError, `is of type Assignments, ${only}`],
+    [new Keyword('ASC', ['ASC']), TypeError, `is a Keyword, ${only}`]
   ]
   for (const [value, Kind, said] of kinds) {
     assert.throws(() => bindInBothModes(':a', { a: value }), (error) => error.constructor === Kind &&
