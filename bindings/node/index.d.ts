@@ -25,12 +25,15 @@ export class Identifier {
 export type Column = string | Identifier
 
 /**
- * Columns and what they are set to, for `SET ?`: `new Assignments({ price: 7 })`. Of an object each own property is a column of one
- * name. In an array or a Map of pairs a column may be an Identifier too.
+ * Columns and what they are set to, for `SET ?`: `new Assignments({ price: 7 })`. Of an object each own property is a column of
+ * one name. In an array or a Map of pairs a column may be an Identifier too.
  */
 export class Assignments {
   constructor(
-    assigned: { readonly [column: string]: Item } | ReadonlyMap<Column, Item> | ReadonlyArray<readonly [column: Column, value: Item]>
+    assigned:
+      | { readonly [column: string]: Item }
+      | ReadonlyMap<Column, Item>
+      | ReadonlyArray<readonly [column: Column, value: Item]>
   )
   readonly pairs: ReadonlyArray<readonly [column: Identifier, value: Item]>
 }
@@ -50,7 +53,7 @@ export type Value = null | boolean | number | bigint | string | Uint8Array | Dat
 /** What may stand in a list or a row, and what a column may be set to. */
 export type Item = Value | Decimal
 
-/** What may stand in a place: also a list, as for `IN (?)`, rows, as for `VALUES ?`, a name or several, assignments, a keyword. */
+/** What may stand in a place: also a list, as for `IN (?)`, rows, as for `VALUES ?`, names, assignments and a keyword. */
 export type Fragment =
   | Item
   | readonly Item[]

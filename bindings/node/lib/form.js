@@ -389,7 +389,7 @@ function writeArray(form, items, place) {
   else writeList(form, items, place)
 }
 
-/** Appends what is more than a value, and no item: an array, an identifier, assignments, a keyword. False of any other object. */
+/** Appends what is more than a value, and no item: an array, an identifier, assignments, a keyword. False of any other. */
 function writeFragment(form, value, place) {
   if (form.len + 8 > form.size) form.grow(8)
   if (Array.isArray(value)) {

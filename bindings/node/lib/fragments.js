@@ -99,8 +99,8 @@ function pairOf(pair) {
 }
 
 /**
- * Columns and what they are set to, for `SET ?`: `new Assignments({ price: 7, sold: null })`. Of an object each own property is a
- * column of one name. In an array or a Map of pairs a column may be an Identifier too: `[new Identifier('t', 'price'), 7]`. A
+ * Columns and what they are set to, for `SET ?`: `new Assignments({ price: 7, sold: null })`. Of an object each own property is
+ * a column of one name. In an array or a Map of pairs a column may be an Identifier too: `[new Identifier('t', 'price'), 7]`. A
  * column is set to what may stand in a list.
  */
 class Assignments {

@@ -64,7 +64,8 @@ function ofOwn(form, value) {
   const kind = kindOf(value)
   if (kind !== undefined) {
     if (!form.takesMore) return [TypeError, `is ${kind}, ${ONLY_VALUES}`]
-    return [TypeError, hasSurrogate(value) ? `is ${kind} with ${NO_UTF8}` : `is ${kind}, which is no value: write a place for it`]
+    const isText = !hasSurrogate(value)
+    return [TypeError, isText ? `is ${kind}, which is no value: write a place for it` : `is ${kind} with ${NO_UTF8}`]
   }
   const digits = digitsOf(value)
   if (digits === undefined) return undefined

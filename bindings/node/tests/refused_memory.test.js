@@ -5,7 +5,8 @@ const assert = require('node:assert/strict')
 const { test } = require('node:test')
 const { mysqlParams } = require('./shared_cases.js')
 
-const { Assignments, Identifier, Template, bind, bindAnywhere, bindForm, bindInBothModes, bindRows, firstUnportable, names } = mysqlParams
+const { Assignments, Identifier, Template, bind, bindAnywhere, bindForm, bindInBothModes, bindRows, firstUnportable,
+  names } = mysqlParams
 
 const LONG = 'x'.repeat(1 << 17)
 const made = new Template(':a, :B')
@@ -21,7 +22,8 @@ const CALLS = {
   anywhere: () => bindAnywhere('SELECT :A, :b', { A: 'é', b: LONG }),
   'both modes': () => bindInBothModes('SELECT :A', { A: LONG }),
   fragments: () => bind('? ? ?', [[1, 'a', 2n ** 70n], [[1, LONG], [2, 'b']], new Identifier('a', 'b')]),
-  columns: () => bind('(:a) :b', { a: [new Identifier('a'), new Identifier('t', 'b')], b: new Assignments({ a: LONG, b: 1.5 }) }),
+  columns: () => bind('(:a) :b', { a: [new Identifier('a'), new Identifier('t', 'b')],
+    b: new Assignments({ a: LONG, b: 1.5 }) }),
   form: () => bindForm('?', Buffer.from('000600', 'hex')),
   rows: () => bindRows(':a, :B', [{ a: 1, B: 'x' }, { a: LONG, B: null }, { a: 0.5, B: [1] }]),
   template: () => made.bind({ a: 1, B: LONG }),

@@ -125,13 +125,14 @@ test('columns, and what they are set to', { skip }, async () => {
   await plain(connection, "CREATE TABLE `a``b` (id INT PRIMARY KEY, `c``d` VARCHAR(200) DEFAULT 'old', `e, f` DECIMAL(10, 2))")
   const table = new Identifier('a`b')
   const [id, text] = [new Identifier('id'), new Identifier('a`b', 'c`d')]
-  await execute(connection, 'INSERT INTO :table (:columns) VALUES :rows', { table, columns: [id, text], rows: [[1, 'x'], [2, 'y']] })
+  const rows = [[1, 'x'], [2, 'y']]
+  await execute(connection, 'INSERT INTO :table (:columns) VALUES :rows', { table, columns: [id, text], rows })
   const assigned = { 'c`d': "', `e, f` = 7 -- ", 'e, f': new Decimal('9.99') }
   for (const mode of MODES) {
     await plain(connection, `SET sql_mode = '${mode}'`)
     await execute(connection, 'UPDATE :table SET :set WHERE id = :id', { table, set: new Assignments(assigned), id: 1 })
-    const [rows] = await query(connection, 'SELECT :columns, `e, f` FROM :table ORDER BY id', { table, columns: [id, text] })
-    assert.deepEqual(rows.map((row) => Object.values(row).map(String)), [['1', assigned['c`d'], '9.99'], ['2', 'y', 'null']])
+    const [found] = await query(connection, 'SELECT :columns, `e, f` FROM :table ORDER BY id', { table, columns: [id, text] })
+    assert.deepEqual(found.map((row) => Object.values(row).map(String)), [['1', assigned['c`d'], '9.99'], ['2', 'y', 'null']])
     await plain(connection, 'UPDATE `a``b` SET `c``d` = NULL, `e, f` = NULL WHERE id = 1')
   }
   const set = new Assignments([[id, 2], [text, "it's"]])

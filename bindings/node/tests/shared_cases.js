@@ -64,7 +64,7 @@ function timeOf([sign, ...fields]) {
   return new FormValue(11, 0, bytes)
 }
 
-/** The text that says a time, as `-026:03:04.000005`, which is what JavaScript gives where a value has to stand in no form. */
+/** The text that says a time, as `-026:03:04.000005`, which is what JavaScript gives a column. */
 function timeText([sign, ...fields]) {
   const [days, hours, minutes, seconds, microseconds] = fields.map(Number)
   const two = (number) => String(number).padStart(2, '0')

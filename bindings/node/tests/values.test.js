@@ -401,13 +401,15 @@ test('assignments that are refused', () => {
   assert.throws(() => bind('?', [new Assignments([[new Identifier('t', 'a'), 1], ['b\0', 2]])]), { code: 17,
     fault: 'ZERO_BYTE', item: 2 })
   const made = 'Assignments are made of an object of columns, or of an array or a Map of pairs: a column and a value'
-  for (const [assigned, said] of [[5, ', and not of type number'], ['ab', ', and not of type string'], [null, ', and not of null'],
-    [undefined, ', and not of type undefined'], [new Set(), ', and not of a Set'], [Buffer.from('x'), ', and not of a Uint8Array'],
+  for (const [assigned, said] of [[5, ', and not of type number'], ['ab', ', and not of type string'],
+    [null, ', and not of null'], [undefined, ', and not of type undefined'], [new Set(), ', and not of a Set'],
+    [Buffer.from('x'), ', and not of a Uint8Array'],
     [new URLSearchParams('a=1'), ', and not of a URLSearchParams'], [Promise.resolve({}), ', and not of a Promise: await it'],
     [new Date(), ', and not of a Date'], [['ab'], ''], [[['a']], ''], [[['a', 1, 2]], ''], [new Array(1), '']]) {
     assert.throws(() => new Assignments(assigned), { name: 'TypeError', message: made + said })
   }
-  for (const column of [5, null, undefined, Buffer.from('a'), new Keyword('NULL', ['NULL']), Object.create(Identifier.prototype)]) {
+  for (const column of [5, null, undefined, Buffer.from('a'), new Keyword('NULL', ['NULL']),
+    Object.create(Identifier.prototype)]) {
     for (const assigned of [[[column, 1]], new Map([[column, 1]])]) {
       assert.throws(() => new Assignments(assigned), { name: 'TypeError',
         message: 'a column is a string, which is one name, or an Identifier' })
