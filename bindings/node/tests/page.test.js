@@ -15,12 +15,13 @@ const PAGE = fs.readFileSync(path.resolve(__dirname, '../../../packages/node.md'
 const BLOCKS = PAGE.matchAll(/^```js\n(.*?)^```\n\n```text\n(.*?)^```$/gms)
 const PROGRAMS = [...BLOCKS].map(([, program, text]) => ({ program, text }))
 
-let why = server.missing()
+let driverWhy = null
 try {
   require('mysql')
 } catch {
-  why ??= 'node-mysql is missing'
+  driverWhy = 'node-mysql is missing'
 }
+const why = server.missing() ?? driverWhy
 
 let folder
 let running
@@ -124,7 +125,7 @@ test('the kinds that are listed are those of the types', () => {
   assert.deepEqual(new Set(onPage), new Set(kinds.filter((kind) => !kind.startsWith('FORM_'))))
 })
 
-test('what node-mysql does there', { skip: why === null || why.startsWith('mariadb') ? false : why }, () => {
+test('what node-mysql does there', { skip: driverWhy ?? false }, () => {
   const { format } = require('mysql')
   assert.equal(format('password = ?', [{ password: 1 }]), 'password = `password` = 1')
   assert.equal(format('?, ?', [undefined, NaN]), 'NULL, NaN')

@@ -43,6 +43,7 @@ async function start() {
     '--skip-networking', '--character-set-server=utf8mb4', '--innodb-buffer-pool-size=32M',
       '--innodb-flush-log-at-trx-commit=0']
   const server = spawn('mariadbd', words, { env, stdio: 'ignore' })
+  server.unref()
   const remove = () => fs.rmSync(folder, { recursive: true, force: true, maxRetries: 5 })
   // However the tests end, no server is left.
   const kill = () => {
@@ -53,6 +54,7 @@ async function start() {
   for (const signal of ['SIGHUP', 'SIGINT', 'SIGTERM']) process.once(signal, () => process.exit(1))
   const stop = async () => {
     process.off('exit', kill)
+    server.ref()
     const ended = new Promise((resolve) => server.once('exit', resolve))
     if (isRunning(server) && server.kill()) await ended
     remove()
