@@ -332,7 +332,9 @@ fn add_rows(
         if rest.is_empty() {
             break;
         }
-        script.write_streamed(rt)?;
+        if script.stream {
+            script.write_streamed(rt)?;
+        }
     }
     Ok(())
 }
