@@ -137,15 +137,41 @@ func fragmentOfCase(kind, rest string) any {
 		}
 		return rows
 	case "identifier", "qualified":
-		var names Identifier
-		for _, name := range strings.Split(rest, "|") {
-			names = append(names, textOf(name))
+		return namesOfCase(rest)
+	case "identifiers":
+		columns := []Identifier{}
+		for _, column := range partsOfCase(rest) {
+			columns = append(columns, namesOfCase(column))
 		}
-		return names
+		return columns
+	case "assignments":
+		assigned := Assignments{}
+		for _, one := range partsOfCase(rest) {
+			column, value, _ := strings.Cut(one, "=")
+			assigned = append(assigned, Assignment{Column: namesOfCase(column), Value: valueOfCase(value)})
+		}
+		return assigned
 	case "keyword":
 		return KeywordOf{rest}
 	}
 	panic(kind)
+}
+
+// namesOfCase returns the names of an identifier.
+func namesOfCase(text string) Identifier {
+	var names Identifier
+	for _, name := range strings.Split(text, "|") {
+		names = append(names, textOf(name))
+	}
+	return names
+}
+
+// partsOfCase returns the identifiers or assignments of a text, which are none if it is empty.
+func partsOfCase(text string) []string {
+	if text == "" {
+		return nil
+	}
+	return strings.Split(text, "||")
 }
 
 // read reads a line of a case.

@@ -20,7 +20,9 @@
 //   - types whose kind is one of these, as `type Status int`;
 //   - a driver.Valuer, as the sql.Null types, by what its Value returns;
 //   - a slice, as a list for `IN (?)`; a slice of slices, as rows for `VALUES ?`;
-//   - Identifier, and what Keyword and KeywordAmong return.
+//   - Identifier, and a slice of them, as the columns of an INSERT;
+//   - Assignments, for `SET ?`;
+//   - what Keyword and KeywordAmong return.
 //
 // A struct, a map, an array, a channel and a func are refused by name. No method String is called.
 //

@@ -24,7 +24,7 @@ const (
 	CodeFloat              Code = 14 // NaN or an infinity; by BindInBothModes each float
 	CodeUnsteady           Code = 15 // by BindAnywhere: a backslash or a byte from 128 on in the query
 	CodeUnportable         Code = 16 // servers read the query in different ways
-	CodeFault              Code = 17 // a list, rows, an exact number, a name or a keyword that can't be written
+	CodeFault              Code = 17 // a list, rows, an exact number, a name, an assignment or a keyword that can't be written
 	CodeBackslash          Code = 18 // by BindInBothModes: a backslash in a string of the query
 	CodeUnsteadyFragment   Code = 19 // by BindAnywhere: an Identifier that isn't ASCII without a backslash
 	CodeOtherTable         Code = 20 // the archive's own: it comes from no function of this package
@@ -34,11 +34,11 @@ const (
 	CodeArchive            Code = -4 // the archive isn't the one of this package
 )
 
-// Fault is what is wrong with a list, rows, an exact number, an Identifier or a keyword.
+// Fault is what is wrong with a list, rows, an exact number, Identifiers, Assignments or a keyword.
 type Fault int
 
 const (
-	FaultEmpty         Fault = 1  // a list without items, no rows, or an Identifier without names
+	FaultEmpty         Fault = 1  // a list without items, no rows, an Identifier without names, or no Assignments
 	FaultEmptyRow      Fault = 2  // a row without items
 	FaultRowLength     Fault = 3  // a row that is not as long as the first
 	FaultNumber        Fault = 4  // a text that is no exact number
@@ -73,8 +73,8 @@ type BindError struct {
 	Marks, Values int
 	// Construct is that of CodeUnportable.
 	Construct Construct
-	// Fault, InRow and Item say what is wrong for CodeFault, in which row, and in which item, or name of an
-	// Identifier.
+	// Fault, InRow and Item say what is wrong for CodeFault, in which row, and in which item, or name. Names are
+	// counted through all Identifiers or columns of a place.
 	Fault       Fault
 	InRow, Item int
 	// Byte is the byte of CodeFormLengthLead and CodeFormType.

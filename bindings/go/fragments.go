@@ -5,6 +5,7 @@ import (
 	"encoding/binary"
 	"reflect"
 	"strconv"
+	"strings"
 )
 
 // Decimal is an exact number by its digits, as "-1.50". It is written bare, so that a server compares and
@@ -13,7 +14,19 @@ type Decimal string
 
 // Identifier is the name of a table or a column, and before it that of what it is in: Identifier{"shop",
 // "t"}. It is written in backquotes, each of which in a name is doubled. A point in a name is a part of it.
+//
+// A slice of them is written with commas in between, as the columns of an INSERT or a SELECT.
 type Identifier []string
+
+// Assignment is a column and what it is set to: a value, or an exact number, as an item of a list.
+type Assignment struct {
+	Column Identifier
+	Value  any
+}
+
+// Assignments are columns and what they are set to, in their order, for `SET ?`. None are refused with
+// FaultEmpty. A map isn't one, since it has no order.
+type Assignments []Assignment
 
 // KeywordOf is a keyword of the program. Keyword and KeywordAmong make one.
 type KeywordOf struct{ word string }
@@ -59,10 +72,23 @@ func (w *writer) isPlace(kind string, at level) error {
 	if w.single {
 		return w.refuseValue("is " + kind + ", and a place takes one value here")
 	}
-	if at == itemLevel {
-		return w.refuseValue("has an item that is " + kind + ": lists and rows are of values, so write a place for each")
+	switch at {
+	case itemLevel:
+		return w.refuseValue("has an item that is " + kind +
+			": lists and rows are of values, or a slice of Identifiers only, so write a place for each")
+	case assignedLevel:
+		return w.refuseAssigned(kind)
 	}
 	return nil
+}
+
+// refuseAssigned returns the error for what a column is set to and is more than one value.
+func (w *writer) refuseAssigned(kind string) error {
+	column := make([]string, 0, len(w.column))
+	for _, name := range w.column {
+		column = append(column, "`"+shown(name)+"`")
+	}
+	return w.refuseValue("sets " + strings.Join(column, ".") + " to " + kind + ": a column takes one value")
 }
 
 // identifier writes an Identifier.
@@ -77,8 +103,66 @@ func (w *writer) identifier(names Identifier, at level) error {
 		w.form = append(w.form, typeQualified, 0)
 		w.count(len(names))
 	}
+	w.names(names)
+	return nil
+}
+
+// names writes the names of an identifier, without their count.
+func (w *writer) names(names Identifier) {
 	for _, name := range names {
 		w.string(name)
+	}
+}
+
+// identifiers writes Identifiers that stand in one place.
+func (w *writer) identifiers(of []Identifier) {
+	w.form = append(w.form, typeIdentifiers, 0)
+	w.count(len(of))
+	for _, names := range of {
+		w.count(len(names))
+		w.names(names)
+	}
+}
+
+// identifiersOf returns the elements of a slice, and whether these are Identifiers only. Without elements the
+// slice's type decides.
+func identifiersOf(slice any) ([]Identifier, bool) {
+	elements := reflect.ValueOf(slice)
+	if elements.Len() == 0 {
+		return nil, elements.Type().Elem() == identifierType
+	}
+	var found []Identifier
+	for i := 0; i < elements.Len(); i++ {
+		switch element := elements.Index(i).Interface().(type) {
+		case Identifier:
+			found = append(found, element)
+		case *Identifier:
+			if element == nil {
+				return nil, false
+			}
+			found = append(found, *element)
+		default:
+			return nil, false
+		}
+	}
+	return found, true
+}
+
+// assignments writes Assignments.
+func (w *writer) assignments(assigned Assignments, at level) error {
+	if err := w.isPlace("Assignments", at); err != nil {
+		return err
+	}
+	w.fragments = true
+	w.form = append(w.form, typeAssignments, 0)
+	w.count(len(assigned))
+	for _, one := range assigned {
+		w.count(len(one.Column))
+		w.names(one.Column)
+		w.column = one.Column
+		if err := w.value(one.Value, assignedLevel); err != nil {
+			return err
+		}
 	}
 	return nil
 }
@@ -104,8 +188,11 @@ func (w *writer) list(slice any, at level) error {
 	if w.single {
 		return w.refuseValue("is a slice, and a place takes one value here: write a place for each of its values")
 	}
-	if at == itemLevel {
+	switch at {
+	case itemLevel:
 		return w.refuseValue("has a slice in a row: rows are of values")
+	case assignedLevel:
+		return w.refuseAssigned("a slice")
 	}
 	w.fragments = true
 	if rows, ok := slice.([][]any); ok {
@@ -127,6 +214,10 @@ func (w *writer) list(slice any, at level) error {
 	}
 	if rows {
 		return w.rows(reflect.ValueOf(slice))
+	}
+	if identifiers, ok := identifiersOf(slice); ok {
+		w.identifiers(identifiers)
+		return nil
 	}
 	w.form = append(w.form, typeList, 0)
 	return w.items(slice)
@@ -245,11 +336,12 @@ var (
 	valuerType     = reflect.TypeOf((*driver.Valuer)(nil)).Elem()
 	byteType       = reflect.TypeOf(byte(0))
 	identifierType = reflect.TypeOf(Identifier(nil))
+	assignmentType = reflect.TypeOf(Assignment{})
 )
 
-// isRowType returns whether values of a type are rows: slices, except those of bytes, Identifiers and what
-// has a method Value.
+// isRowType returns whether values of a type are rows: slices, except those of bytes or Assignments,
+// Identifiers and what has a method Value.
 func isRowType(kind reflect.Type) bool {
-	return kind.Kind() == reflect.Slice && kind.Elem() != byteType && kind != identifierType &&
-		!kind.Implements(valuerType)
+	return kind.Kind() == reflect.Slice && kind.Elem() != byteType && kind.Elem() != assignmentType &&
+		kind != identifierType && !kind.Implements(valuerType)
 }

@@ -7,12 +7,13 @@ import (
 	"time"
 )
 
-// level is where a value stands: in a place, or in a list or a row.
+// level is where a value stands: in a place, in a list or a row, or behind the column of an assignment.
 type level int
 
 const (
 	placeLevel level = iota
 	itemLevel
+	assignedLevel
 )
 
 // longestChain is how many pointers and driver.Valuers may lead to a value.
@@ -62,6 +63,8 @@ func (w *writer) otherValue(value any, at level, steps int) error {
 		return w.decimal(string(v))
 	case Identifier:
 		return w.identifier(v, at)
+	case Assignments:
+		return w.assignments(v, at)
 	case KeywordOf:
 		return w.keyword(v, at)
 	case driver.Valuer:
@@ -110,9 +113,12 @@ func (w *writer) byKind(value reflect.Value, at level, steps int) error {
 	case reflect.Pointer:
 		return w.pointer(value, at, steps)
 	case reflect.Slice:
-		if value.Type().Elem() == byteType {
+		switch value.Type().Elem() {
+		case byteType:
 			w.bytes(value.Bytes())
 			return nil
+		case assignmentType:
+			return w.assignments(value.Convert(reflect.TypeOf(Assignments(nil))).Interface().(Assignments), at)
 		}
 		return w.list(value.Interface(), at)
 	default:
@@ -137,7 +143,12 @@ func (w *writer) pointer(value reflect.Value, at level, steps int) error {
 func (w *writer) refuseKind(value reflect.Value) error {
 	is := "is of type " + value.Type().String() + ", which has no literal"
 	switch value.Kind() {
-	case reflect.Map, reflect.Struct:
+	case reflect.Map:
+		is += ": for SET give Assignments, which have an order, else json.Marshal's bytes of it"
+	case reflect.Struct:
+		if value.Type() == assignmentType {
+			return w.refuseValue(is + ": give Assignments{..} of it")
+		}
 		is += ": give its parts, or json.Marshal's bytes of it"
 	case reflect.Array:
 		is += ": give a slice of it, as a[:]"

@@ -24,6 +24,7 @@ type (
 	raw      []byte
 	ratio    float64
 	labels   []label
+	columns  []Identifier
 	shape    struct{ Side int }
 	stringer struct{ text string }
 	upper    struct{ text string }
@@ -121,6 +122,13 @@ func TestValues(t *testing.T) {
 		{[]any{[]any{1, 2.5}, []int{3, 4}}, "(1, 2.5e0), (3, 4)"},
 		{[]fmt.Stringer{status(1), nil}, "1, NULL"}, {[]driver.Valuer{ids{1}, ids{2}}, "'[1]', '[2]'"}, {[][][]byte{{[]byte("a")}}, "('a')"},
 		{Identifier{"a`b"}, "`a``b`"}, {Identifier{"shop", "t.x"}, "`shop`.`t.x`"}, {Keyword("DESC"), "DESC"},
+		{[]Identifier{{"a"}, {"t", "b`"}}, "`a`, `t`.`b```"}, {[]any{Identifier{"a"}, &Identifier{"b"}}, "`a`, `b`"},
+		{[]*Identifier{{"a"}}, "`a`"}, {&columns{{"a"}}, "`a`"},
+		{Assignments{{Identifier{"a"}, 1}, {Identifier{"t", "b"}, "it's"}, {Identifier{"a"}, nil}},
+			"`a` = 1, `t`.`b` = 'it\\'s', `a` = NULL"},
+		{[]Assignment{{Identifier{"a"}, Decimal("-1.50")}, {Identifier{"b"}, 0.5}}, "`a` = -1.50, `b` = 0.5e0"},
+		{&Assignments{{Identifier{"a"}, &upper{"a"}}, {Identifier{"b"}, []byte{0xff}}, {Identifier{"c"}, summer}},
+			"`a` = 'A', `b` = 0xFF, `c` = '2024-07-01 14:30:00'"},
 	} {
 		if text := bound(t, c.value); text != c.wanted {
 			t.Errorf("%T %v: %s", c.value, c.value, text)
@@ -138,6 +146,12 @@ func refused(t *testing.T, value any) *BindError {
 	return found
 }
 
+// What messages say to give instead.
+const (
+	insteadOfMap  = "for SET give Assignments, which have an order, else json.Marshal's bytes of it"
+	insteadOfItem = "lists and rows are of values, or a slice of Identifiers only, so write a place for each"
+)
+
 func TestRefusedValues(t *testing.T) {
 	var endlessPointer any
 	endlessPointer = &endlessPointer
@@ -147,7 +161,8 @@ func TestRefusedValues(t *testing.T) {
 	}{
 		{shape{1}, "is of type mysqlparams.shape, which has no literal: give its parts, or json.Marshal's bytes of it"},
 		{&shape{1}, "is of type mysqlparams.shape, which has no literal: give its parts, or json.Marshal's bytes of it"},
-		{map[string]int{"a": 1}, "is of type map[string]int, which has no literal: give its parts, or json.Marshal's bytes of it"},
+		{map[string]int{"a": 1}, "is of type map[string]int, which has no literal: " + insteadOfMap},
+		{Assignment{Identifier{"a"}, 1}, "is of type mysqlparams.Assignment, which has no literal: give Assignments{..} of it"},
 		{stringer{"x"}, "is of type mysqlparams.stringer, which has no literal: give its parts, or json.Marshal's bytes of it"},
 		{make(chan int), "is of type chan int, which has no literal"},
 		{func() {}, "is of type func(), which has no literal"},
@@ -173,9 +188,21 @@ func TestRefusedValues(t *testing.T) {
 		{[]any{[]any{1}, nil}, "has rows and values: give a slice of values, or one of rows only"},
 		{[][]any{{1, []int{2}}}, "has a slice in a row: rows are of values"},
 		{[][][]int{{{1}}}, "has a slice in a row: rows are of values"},
-		{[]any{Identifier{"a"}}, "has an item that is an Identifier: lists and rows are of values, so write a place for each"},
-		{[]KeywordOf{Keyword("ASC")}, "has an item that is a keyword: lists and rows are of values, so write a place for each"},
-		{[]any{map[string]int{}}, "is of type map[string]int, which has no literal: give its parts, or json.Marshal's bytes of it"},
+		{[]any{Identifier{"a"}, 1}, "has an item that is an Identifier: " + insteadOfItem},
+		{[]any{1, Identifier{"a"}}, "has an item that is an Identifier: " + insteadOfItem},
+		{[]*Identifier{{"a"}, nil}, "has an item that is an Identifier: " + insteadOfItem},
+		{[][]Identifier{{{"a"}}}, "has an item that is an Identifier: " + insteadOfItem},
+		{[]KeywordOf{Keyword("ASC")}, "has an item that is a keyword: " + insteadOfItem},
+		{[]any{Assignments{}}, "has an item that is Assignments: " + insteadOfItem},
+		{[][]Assignment{{}}, "has an item that is Assignments: " + insteadOfItem},
+		{[]any{map[string]int{}}, "is of type map[string]int, which has no literal: " + insteadOfMap},
+		{Assignments{{Identifier{"a"}, 1}, {Identifier{"t", "b`\n"}, []int{1}}}, "sets `t`.`b`\\x0a` to a slice: a column takes one value"},
+		{Assignments{{Identifier{"a"}, []any{}}}, "sets `a` to a slice: a column takes one value"},
+		{Assignments{{Identifier{"a"}, &labels{"x"}}}, "sets `a` to a slice: a column takes one value"},
+		{Assignments{{Identifier{"a"}, Identifier{"b"}}}, "sets `a` to an Identifier: a column takes one value"},
+		{Assignments{{Identifier{"a"}, Keyword("DEFAULT")}}, "sets `a` to a keyword: a column takes one value"},
+		{Assignments{{Identifier{"a"}, []Assignment{}}}, "sets `a` to Assignments: a column takes one value"},
+		{Assignments{{Identifier{"a"}, map[string]any{}}}, "is of type map[string]interface {}, which has no literal: " + insteadOfMap},
 	} {
 		found := refused(t, c.value)
 		if found.Code != CodeValue || found.Place != 0 || found.Row != -1 ||
@@ -209,6 +236,12 @@ func TestRefusedByTheArchive(t *testing.T) {
 		{Identifier{"a\x00"}, CodeFault, FaultZeroByte, 0}, {Identifier{strings.Repeat("a", 65)}, CodeFault,
 			FaultLongName, 0},
 		{Identifier{"a "}, CodeFault, FaultTrailingSpace, 0}, {Identifier{`a\`}, CodeFault, FaultBackslash, 0},
+		{[]Identifier{}, CodeFault, FaultEmpty, 0}, {[]Identifier{{"a"}, {}}, CodeFault, FaultEmpty, 0},
+		{[]Identifier{{"a"}, {"t", ""}}, CodeFault, FaultEmptyName, 0}, {Assignments{}, CodeFault, FaultEmpty, 0},
+		{[]Assignment(nil), CodeFault, FaultEmpty, 0}, {Assignments{{nil, 1}}, CodeFault, FaultEmpty, 0},
+		{Assignments{{Identifier{"a "}, 1}}, CodeFault, FaultTrailingSpace, 0},
+		{Assignments{{Identifier{"a"}, math.NaN()}}, CodeFloat, 0, 0},
+		{Assignments{{Identifier{"a"}, Decimal("x")}}, CodeFault, FaultNumber, 0},
 		{Keyword("DROP"), CodeFault, FaultKeyword, 0}, {KeywordOf{}, CodeFault, FaultKeyword, 0},
 	} {
 		if found := refused(t, c.value); found.Code != c.code || found.Fault != c.fault || found.InRow != c.row {
@@ -262,7 +295,7 @@ func TestOneValue(t *testing.T) {
 	if err != nil || text != "bücher _utf8mb4 0xC3A9, -7" {
 		t.Errorf("%q, %v", text, err)
 	}
-	for _, value := range []any{[]int{1}, Identifier{"a"}, Keyword("ASC"), Decimal("1"),
+	for _, value := range []any{[]int{1}, Identifier{"a"}, []Identifier{{"a"}}, Assignments{}, Keyword("ASC"), Decimal("1"),
 		bigOf("99999999999999999999"), 0.5} {
 		var found *BindError
 		_, err := BindInBothModes("ü :a", sql.Named("a", value))
@@ -288,7 +321,11 @@ func TestLocation(t *testing.T) {
 		"BindAnywhere":    func() (string, error) { return utc.BindAnywhere("?", moment) },
 		"BindInBothModes": func() (string, error) { return utc.BindInBothModes("?", &moment) },
 		"BindTemplate":    func() (string, error) { return utc.BindTemplate(template, moment) },
-		"a list":          func() (string, error) { return utc.Bind(BackslashEscapes, "?", []time.Time{moment}) },
+		"an assignment": func() (string, error) {
+			text, err := utc.Bind(BackslashEscapes, "?", Assignments{{Identifier{"a"}, moment}})
+			return strings.TrimPrefix(text, "`a` = "), err
+		},
+		"a list": func() (string, error) { return utc.Bind(BackslashEscapes, "?", []time.Time{moment}) },
 		"BindRows": func() (string, error) {
 			texts, err := utc.BindRows(BackslashEscapes, "?", [][]any{{moment}})
 			return strings.Join(texts, ""), err

@@ -16,6 +16,7 @@ const (
 	typeTime, typeDatetime, typeString                 = 11, 12, 253
 	typeNumber, typeList, typeRows                     = 128, 129, 130
 	typeIdentifier, typeQualified, typeKeyword    byte = 131, 132, 133
+	typeIdentifiers, typeAssignments              byte = 134, 135
 	flagUnsigned                                  byte = 128
 )
 
@@ -27,6 +28,7 @@ type writer struct {
 	location  *time.Location // whose clock a time.Time is written by; nil for its own
 	name      string         // the name of the argument that is written
 	number    int            // its number
+	column    Identifier     // the column of the assignment that is written
 }
 
 // begin has the writer write a form anew.
@@ -36,7 +38,7 @@ func (w *writer) begin(location *time.Location, single bool) {
 
 // end drops what the writer shouldn't keep.
 func (w *writer) end() {
-	w.name, w.location = "", nil
+	w.name, w.location, w.column = "", nil, nil
 	if cap(w.form) > keptForm {
 		w.form = nil
 	}
