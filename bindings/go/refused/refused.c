@@ -94,7 +94,11 @@ int32_t __wrap_mysql_params_bind_wide(const uint8_t *query, size_t query_len, co
 int32_t __wrap_mysql_params_names_wide(const uint8_t *query, size_t query_len, bool mode, uint8_t *room, size_t room_len,
                                        mysql_params_report *report)
 {
-    return told != 0 ? tells(report) : __real_mysql_params_names_wide(query, query_len, mode, room, room_len, report);
+    if (told == 0)
+        return __real_mysql_params_names_wide(query, query_len, mode, room, room_len, report);
+    if (room_len > 0)
+        room[0] = 0xFF; /* No length begins so. What else the room has is of the call before. */
+    return tells(report);
 }
 
 int32_t __wrap_mysql_params_first_unportable_wide(const uint8_t *query, size_t query_len, bool mode, mysql_params_report *report)
