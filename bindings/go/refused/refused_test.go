@@ -97,7 +97,10 @@ func TestRefusedMemoryOfNames(t *testing.T) {
 func TestOtherArchive(t *testing.T) {
 	runtime.LockOSThread()
 	defer runtime.UnlockOSThread()
+	template, err := NewTemplate(BackslashEscapes, ":a")
+	must(nil, err)
 	calls := map[string]func() error{
+		"a template":      func() error { _, err := template.Bind(sql.Named("a", 1)); return err },
 		"Bind":            func() error { _, err := Bind(BackslashEscapes, "?", 1); return err },
 		"Names":           func() error { _, err := Names(BackslashEscapes, ":a"); return err },
 		"BindRows":        func() error { _, err := BindRows(BackslashEscapes, "?", [][]any{{1}}); return err },
@@ -119,7 +122,7 @@ func TestOtherArchive(t *testing.T) {
 		}
 	}
 	tell(1000, 3)
-	_, err := Names(BackslashEscapes, ":a")
+	_, err = Names(BackslashEscapes, ":a")
 	tell(0, 0)
 	if err == nil {
 		t.Error("an answer that is no row of strings")
