@@ -41,6 +41,14 @@ func (b Binder) BindAnywhere(query string, args ...any) (string, error) {
 
 // Bind is the package's Bind with the options.
 func (b Binder) Bind(mode Mode, query string, args ...any) (string, error) {
+	return b.bindKept(keptTemplate(mode, query), mode, query, args)
+}
+
+// bindKept binds to a query by what is kept of it, if anything is.
+func (b Binder) bindKept(kept *Template, mode Mode, query string, args []any) (string, error) {
+	if kept != nil {
+		return b.BindTemplate(kept, args...)
+	}
 	return b.bind(&question{call: callBind, mode: mode, query: query}, args)
 }
 
@@ -61,6 +69,16 @@ func (b Binder) bind(q *question, args []any) (string, error) {
 	}
 	r := rooms.Get().(*room)
 	defer r.giveBack()
+	if q.call == callTemplate && q.table.isInOrder(args) {
+		r.writer.begin(b.Location, false)
+		if err := r.writer.inOrder(args); err != nil {
+			return "", err
+		}
+		if text, err := r.answer(q.table.inOrder()); err == nil {
+			return text, nil
+		}
+		// The query with its names tells the refusal.
+	}
 	r.writer.begin(b.Location, q.call == callBothModes)
 	if err := r.writer.arguments(args); err != nil {
 		return "", err

@@ -353,7 +353,8 @@ func TestCasesOfBinding(t *testing.T) {
 			if err != nil {
 				t.Fatal(err)
 			}
-			for _, args := range [][]any{c.params, asBytes(c.params)} {
+			// From the third time on the places are kept.
+			for _, args := range [][]any{c.params, asBytes(c.params), c.params, asBytes(c.params)} {
 				text, err := Bind(c.mode, c.query, args...)
 				c.expect(t, text, err)
 				text, err = template.Bind(args...)

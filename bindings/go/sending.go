@@ -171,14 +171,17 @@ func (s *Session) Mode() Mode { return s.mode }
 // Bind returns the text of Bind in the mode of the connection. It refuses a query that isn't portable with
 // CodeUnportable.
 func (s *Session) Bind(query string, args ...any) (string, error) {
-	found, err := FirstUnportable(s.mode, query)
-	if err != nil {
-		return "", err
+	kept := keptTemplate(s.mode, query)
+	if kept == nil || !kept.portable {
+		found, err := FirstUnportable(s.mode, query)
+		if err != nil {
+			return "", err
+		}
+		if found != nil {
+			return "", found.refused()
+		}
 	}
-	if found != nil {
-		return "", found.refused()
-	}
-	return s.binder.Bind(s.mode, query, args...)
+	return s.binder.bindKept(kept, s.mode, query, args)
 }
 
 // QueryContext binds a query, and sends the text over the connection without arguments.

@@ -5,6 +5,8 @@ package mysqlparams
 */
 import "C"
 
+import "database/sql"
+
 // placesAt returns where the places of a template stand.
 func (t *Template) placesAt() (*C.mysql_params_place, C.size_t) {
 	if len(t.places) == 0 {
@@ -19,10 +21,13 @@ var noPlace C.mysql_params_place
 //
 // Its memory is Go's, so that there is nothing to close. Nothing changes it: goroutines may bind it at once.
 type Template struct {
-	query  string
-	mode   Mode
-	head   C.mysql_params_table_head
-	places []C.mysql_params_place
+	query    string
+	mode     Mode
+	head     C.mysql_params_table_head
+	places   []C.mysql_params_place
+	names    []string  // those of the places, if each differs from the others
+	marked   *Template // of the query with `?` in their places; nil without them
+	portable bool      // of a kept one, whether the query is portable
 }
 
 // NewTemplate finds the places of a query in a mode. A query that can't be bound is refused when it is bound.
@@ -34,19 +39,70 @@ func NewTemplate(mode Mode, query string) (*Template, error) {
 	r := rooms.Get().(*room)
 	defer r.giveBack()
 	made := &Template{query: query, mode: mode}
-	at, length := bytesOf(query)
+	if err := made.find(r); err != nil {
+		return nil, err
+	}
+	if made.head.names > 0 && made.head.marks == 0 && made.head.not_alone == 0 {
+		return made, made.mark(r)
+	}
+	return made, nil
+}
+
+// find finds the places.
+func (t *Template) find(r *room) error {
+	at, length := bytesOf(t.query)
 	number := C.int32_t(C.MYSQL_PARAMS_ROOM)
 	for tries := 0; tries < 2 && number == C.MYSQL_PARAMS_ROOM; tries++ {
 		if tries > 0 {
-			made.places = make([]C.mysql_params_place, int(r.report.len))
+			t.places = make([]C.mysql_params_place, int(r.report.len))
 		}
-		places, placesLen := made.placesAt()
-		number = C.mysql_params_table_wide(at, length, C.bool(mode), &made.head, places, placesLen, &r.report)
+		places, placesLen := t.placesAt()
+		number = C.mysql_params_table_wide(at, length, C.bool(t.mode), &t.head, places, placesLen, &r.report)
 	}
 	if number != C.MYSQL_PARAMS_DONE {
-		return nil, r.refusal(number, &question{mode: mode, query: query})
+		return r.refusal(number, &question{mode: t.mode, query: t.query})
 	}
-	return made, nil
+	return nil
+}
+
+// mark finds the places of the query with `?` in those of its names, if each of these differs from the others.
+// Values in their order are then bound without their names: the literals are the same, and what is between them.
+func (t *Template) mark(r *room) error {
+	found, err := Names(t.mode, t.query)
+	if err != nil {
+		return err
+	}
+	differ := make(map[string]bool, len(found.Names))
+	for _, name := range found.Names {
+		differ[name] = true
+	}
+	if len(differ) < len(found.Names) {
+		return nil
+	}
+	marked := &Template{query: found.Query, mode: t.mode}
+	if err := marked.find(r); err != nil {
+		return err
+	}
+	t.names, t.marked = found.Names, marked
+	return nil
+}
+
+// inOrder returns the question for the values of the names in the order of the places.
+func (t *Template) inOrder() *question {
+	return &question{call: callTemplate, mode: t.mode, query: t.marked.query, table: t.marked}
+}
+
+// isInOrder returns whether arguments are of the names of the places, in their order.
+func (t *Template) isInOrder(args []any) bool {
+	if t.marked == nil || len(args) != len(t.names) {
+		return false
+	}
+	for i, arg := range args {
+		if named, ok := arg.(sql.NamedArg); !ok || named.Name != t.names[i] {
+			return false
+		}
+	}
+	return true
 }
 
 // Query returns the query.

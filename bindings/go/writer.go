@@ -62,6 +62,19 @@ func (w *writer) arguments(args []any) error {
 	return nil
 }
 
+// inOrder writes all arguments of a call, which have names, without these.
+func (w *writer) inOrder(args []any) error {
+	for i, arg := range args {
+		named := arg.(sql.NamedArg)
+		w.number, w.name = i, named.Name
+		w.form = append(w.form, 0)
+		if err := w.value(named.Value, placeLevel); err != nil {
+			return err
+		}
+	}
+	return nil
+}
+
 // refuse returns the error for the argument that is written.
 func (w *writer) refuse(message string) error {
 	return &BindError{Code: CodeValue, Place: w.number, Name: w.name, Row: -1, message: message}

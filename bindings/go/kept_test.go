@@ -1,0 +1,118 @@
+package mysqlparams
+
+import (
+	"database/sql"
+	"errors"
+	"fmt"
+	"strings"
+	"sync"
+	"testing"
+)
+
+// TestKeptQueries has a query bound again and again by values in the order of its places, in another one, and
+// by more values than names.
+func TestKeptQueries(t *testing.T) {
+	a, b, more := sql.Named("a", "it's"), sql.Named("B", []any{1, 0.5}), sql.Named("c", 3)
+	valuer := sql.Named("B", upper{"x"})
+	for query, each := range map[string][]struct {
+		args   []any
+		wanted string
+	}{
+		"SELECT :a, '?:a', :B": {
+			{[]any{a, b}, `SELECT 'it\'s', '?:a', 1, 0.5e0`}, {[]any{b, a}, `SELECT 'it\'s', '?:a', 1, 0.5e0`},
+			{[]any{a, b, more}, `SELECT 'it\'s', '?:a', 1, 0.5e0`}, {[]any{a, valuer}, `SELECT 'it\'s', '?:a', 'X'`},
+		},
+		"SELECT :a, :B, :a": {{[]any{a, b}, `SELECT 'it\'s', 1, 0.5e0, 'it\'s'`}, {[]any{b, a}, `SELECT 'it\'s', 1, 0.5e0, 'it\'s'`}},
+		"SELECT ?, ?":       {{[]any{1, nil}, "SELECT 1, NULL"}, {[]any{[]byte{0xff}, Identifier{"x"}}, "SELECT 0xFF, `x`"}},
+		"SELECT 1":          {{nil, "SELECT 1"}},
+	} {
+		for i := 0; i < 4; i++ {
+			for _, c := range each {
+				if text, err := Bind(BackslashEscapes, query, c.args...); err != nil || text != c.wanted {
+					t.Errorf("%s: %q, %v", query, text, err)
+				}
+			}
+		}
+		if found := keptTemplate(BackslashEscapes, query); found == nil || found.Query() != query {
+			t.Errorf("%s: not kept", query)
+		}
+	}
+	if !keptTemplate(BackslashEscapes, "SELECT :a, '?:a', :B").isInOrder([]any{a, b}) {
+		t.Error("values in the order of the places have their names written")
+	}
+	if keptTemplate(BackslashEscapes, "SELECT :a, :B, :a").marked != nil {
+		t.Error("a name that stands twice can't do without names")
+	}
+}
+
+// TestModesOfKeptQueries has queries bound in both modes by turns, of which one has a place in one mode only.
+func TestModesOfKeptQueries(t *testing.T) {
+	value := sql.Named("a", `\`)
+	for i := 0; i < 4; i++ {
+		for _, c := range []struct {
+			mode          Mode
+			query, wanted string
+			args          []any
+		}{
+			{BackslashEscapes, `SELECT '\' -- ', :a`, `SELECT '\' -- ', '\\'`, []any{value}},
+			{NoBackslashEscapes, `SELECT '\' -- ', :a`, `SELECT '\' -- ', :a`, nil},
+			{BackslashEscapes, `SELECT :a`, `SELECT '\\'`, []any{value}},
+			{NoBackslashEscapes, `SELECT :a`, `SELECT '\'`, []any{value}},
+		} {
+			if text, err := Bind(c.mode, c.query, c.args...); err != nil || text != c.wanted {
+				t.Errorf("%v %s: %q, %v", c.mode, c.query, text, err)
+			}
+		}
+	}
+}
+
+// TestSessionsOfKeptQueries has queries refused that aren't portable, however often they were bound.
+func TestSessionsOfKeptQueries(t *testing.T) {
+	session := &Session{mode: BackslashEscapes}
+	for i := 0; i < 4; i++ {
+		if text, err := session.Bind("SELECT :p", sql.Named("p", "é")); err != nil || text != "SELECT 'é'" {
+			t.Errorf("%q, %v", text, err)
+		}
+		var found *BindError
+		text, err := session.Bind("SELECT 1 /*! :p */", sql.Named("p", 1))
+		if !errors.As(err, &found) || found.Code != CodeUnportable || text != "" {
+			t.Errorf("%q, %v", text, err)
+		}
+		if _, err := Bind(BackslashEscapes, "SELECT 1 /*! :p */", sql.Named("p", 1)); errors.As(err, &found) && found.Code == CodeUnportable {
+			t.Error(err)
+		}
+	}
+}
+
+// TestManyKeptQueries has more queries than are kept, by many goroutines at once, and one that is too long.
+func TestManyKeptQueries(t *testing.T) {
+	var all sync.WaitGroup
+	for worker := 0; worker < 4; worker++ {
+		all.Add(1)
+		go func() {
+			defer all.Done()
+			for i := 0; i < 3*mostKept; i++ {
+				query := fmt.Sprintf("SELECT :a%d", i)
+				for j := 0; j < 3; j++ {
+					text, err := Bind(BackslashEscapes, query, sql.Named(fmt.Sprint("a", i), j))
+					if err != nil || text != fmt.Sprint("SELECT ", j) {
+						t.Errorf("%s: %q, %v", query, text, err)
+					}
+				}
+			}
+		}()
+	}
+	all.Wait()
+	if count := len(lastWithEscapes.kept); count == 0 || count > mostKept {
+		t.Error(count, "queries are kept")
+	}
+	long := "SELECT ?" + strings.Repeat(" ", longestKept)
+	for i := 0; i < 3; i++ {
+		if text, err := Bind(BackslashEscapes, long, 1); err != nil || text != strings.Replace(long, "?", "1", 1) {
+			t.Error(err)
+		}
+	}
+	if _, seen := lastWithEscapes.kept[long]; seen {
+		t.Error("a long query is kept")
+	}
+}
