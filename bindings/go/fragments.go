@@ -223,10 +223,10 @@ func (w *writer) list(slice any, at level) error {
 	return w.items(slice)
 }
 
-// haveMore has memory for so many bytes, and an eighth more, so that a form isn't copied as it grows. It is a guess,
+// haveMore has memory for so many bytes, and a quarter more, so that a form isn't copied as it grows. It is a guess,
 // so that it has no more than what is kept.
 func (w *writer) haveMore(count int) {
-	wanted := len(w.form) + count + count/8
+	wanted := len(w.form) + count + count/4
 	if wanted > keptForm {
 		wanted = keptForm
 	}
