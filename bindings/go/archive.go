@@ -17,7 +17,13 @@ type question struct {
 	call  call
 	mode  Mode
 	query string
-	table *Template // of callTemplate
+	table *Template // of callTemplate; of callAnywhere what is kept of the query, if it is portable
+}
+
+// marked returns the question for values in the order of the places, without their names.
+func (q *question) marked() *question {
+	marked := q.table.marked
+	return &question{call: q.call, mode: q.mode, query: marked.query, table: marked}
 }
 
 // call is a call of the archive.

@@ -36,7 +36,11 @@ func BindInBothModes(query string, args ...any) (string, error) {
 
 // BindAnywhere is the package's BindAnywhere with the options.
 func (b Binder) BindAnywhere(query string, args ...any) (string, error) {
-	return b.bind(&question{call: callAnywhere, query: query}, args)
+	q := &question{call: callAnywhere, query: query}
+	if kept := keptTemplate(BackslashEscapes, query); kept != nil && kept.portable {
+		q.table = kept // Without a backslash the query is the same in both modes. With one it is refused.
+	}
+	return b.bind(q, args)
 }
 
 // Bind is the package's Bind with the options.
@@ -69,12 +73,12 @@ func (b Binder) bind(q *question, args []any) (string, error) {
 	}
 	r := rooms.Get().(*room)
 	defer r.giveBack()
-	if q.call == callTemplate && q.table.isInOrder(args) {
+	if q.table != nil && q.table.isInOrder(args) {
 		r.writer.begin(b.Location, false)
 		if err := r.writer.inOrder(args); err != nil {
 			return "", err
 		}
-		if text, err := r.answer(q.table.inOrder()); err == nil {
+		if text, err := r.answer(q.marked()); err == nil {
 			return text, nil
 		}
 		// The query with its names tells the refusal.

@@ -28,8 +28,8 @@
 //
 // The archive libmysql_params_c.a answers each call. What it answers is stated in the repository's
 // docs/RULES.md and proved for every input. This package, which hands values in and answers out, is tested
-// and not proved. It calls the archive by cgo; a bind is one such call. Bind keeps the places of the last
-// queries from their second time on, so that they are found once. All functions and types are safe for
+// and not proved. It calls the archive by cgo; a bind is one such call. Bind and BindAnywhere keep the
+// places of the last queries from their second time on. All functions and types are safe for
 // goroutines.
 package mysqlparams
 

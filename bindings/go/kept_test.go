@@ -84,6 +84,29 @@ func TestSessionsOfKeptQueries(t *testing.T) {
 	}
 }
 
+// TestKeptQueriesForAnyConnection has queries bound again and again to texts for any connection, and refused.
+func TestKeptQueriesForAnyConnection(t *testing.T) {
+	for i := 0; i < 4; i++ {
+		text, err := BindAnywhere("SELECT ':a', :a, :B", sql.Named("a", "it's"), sql.Named("B", Identifier{"b"}))
+		if err != nil || text != "SELECT ':a', _utf8mb4'it''s', `b`" {
+			t.Errorf("%q, %v", text, err)
+		}
+		for query, code := range map[string]Code{
+			"SELECT /*!1*/ :p": CodeUnportable, "SELECT 'é', :p": CodeUnsteady, `SELECT '\n', :p`: CodeUnsteady,
+			"SELECT ':a', :p, :a": CodeMissing,
+		} {
+			var found *BindError
+			text, err := BindAnywhere(query, sql.Named("p", 1))
+			if !errors.As(err, &found) || found.Code != code || text != "" {
+				t.Errorf("%s: %q, %v", query, text, err)
+			}
+			if query == "SELECT /*!1*/ :p" && i == 3 && !keptTemplate(BackslashEscapes, query).isInOrder([]any{sql.Named("p", 1)}) {
+				t.Error("the query isn't kept")
+			}
+		}
+	}
+}
+
 // TestManyKeptQueries has more queries than are kept, by many goroutines at once, and one that is too long.
 func TestManyKeptQueries(t *testing.T) {
 	var all sync.WaitGroup

@@ -87,11 +87,6 @@ func (t *Template) mark(r *room) error {
 	return nil
 }
 
-// inOrder returns the question for the values of the names in the order of the places.
-func (t *Template) inOrder() *question {
-	return &question{call: callTemplate, mode: t.mode, query: t.marked.query, table: t.marked}
-}
-
 // isInOrder returns whether arguments are of the names of the places, in their order.
 func (t *Template) isInOrder(args []any) bool {
 	if t.marked == nil || len(args) != len(t.names) {
