@@ -1,7 +1,7 @@
 //! Fragments in the flat form, read and bound into the caller's room.
 use crate::fragment_inputs::InPlaces;
 use crate::fragment_inputs::InPlaces::{Named, Positional};
-use crate::fragment_inputs::PlainFragment::{Identifier, List, Value};
+use crate::fragment_inputs::PlainFragment::{Assignments, Identifier, Identifiers, List, Value};
 use crate::fragment_inputs::PlainItem::{Decimal as Number, Value as Item};
 use crate::inputs::Plain::{Int, Null};
 use crate::outcome::Memory::{Asked, Never};
@@ -36,11 +36,25 @@ const NAME_AND_NUMBER: &[u8] = b"\x01t\x83\0\x01t\x01a\x01\0\xFD";
 
 const NAME_ALONE: &[u8] = b"\x01t\x83\0\x01t";
 
+/// The columns `a` and `t`.`b`, by position.
+const COLUMNS: &[u8] = b"\0\x86\0\x02\0\0\0\x01\0\0\0\x01a\x02\0\0\0\x01t\x01b";
+
+/// `a` set to 1, and `t`.`b` to -1.50, by position.
+const CHANGES: &[u8] = b"\0\x87\0\x02\0\0\0\x01\0\0\0\x01a\x01\0\x01\
+    \x02\0\0\0\x01t\x01b\x80\0\x05-1.50";
+
 const FORMS: &[(&str, FormRow)] = cases! {
     "form_fragments of a list" =>
         LIST, Ok(Positional(&[List(&[Item(Int(7)), Number(b"-1.50"), Item(Null)])])), Asked;
     "form_fragments of two names" =>
         NAME_AND_NUMBER, Ok(Named(&[(b"a", Value(Int(-3))), (b"t", Identifier(b"t"))])), Asked;
+    "form_fragments of columns" =>
+        COLUMNS, Ok(Positional(&[Identifiers(&[&[b"a"], &[b"t", b"b"]])])), Asked;
+    "form_fragments of assignments" =>
+        CHANGES, Ok(Positional(&[Assignments(&[
+            (&[b"a"], Item(Int(1))),
+            (&[b"t", b"b"], Number(b"-1.50")),
+        ])])), Asked;
     "form_fragments of nothing" => b"", Ok(Positional(&[])), Never;
     "form_fragments of a list that is cut" =>
         b"\0\x81\0\x02\0\0\0\x06\0", Err("End { place: 0, position: 0 }"), Asked;
@@ -97,6 +111,10 @@ const BOUND: &[(&str, (BoundRow, bool))] = cases! {
     "bind_fragments_into of names and a keyword" =>
         (b"? ?", b"\0\x84\0\x02\0\0\0\x02db\x01t\0\x85\0\x04DESC", Ok(b"`db`.`t` DESC"), Asked),
         false;
+    "bind_fragments_into of columns" =>
+        (b"(?)", COLUMNS, Ok(b"(`a`, `t`.`b`)"), Asked), false;
+    "bind_fragments_into of assignments" =>
+        (b"SET ?", CHANGES, Ok(b"SET `a` = 1, `t`.`b` = -1.50"), Asked), false;
     "bind_fragments_into of a text without backslash escapes" =>
         (b"'\\', ?", b"\0\xFD\0\x02'\\", Ok(b"'\\', '''\\'"), Asked), true;
     "bind_fragments_into of a room that is too short" =>
@@ -105,10 +123,10 @@ const BOUND: &[(&str, (BoundRow, bool))] = cases! {
     "bind_fragments_into of a list that is cut" =>
         (b"?", b"\0\x81\0\x02\0\0\0\x06\0", Err(CUT), Asked), false;
     "bind_fragments_into of a form with an unknown type" =>
-        (b"?", b"\0\x86\0", Err(FragmentsOutcome::AsValues(Told::FormType {
+        (b"?", b"\0\x88\0", Err(FragmentsOutcome::AsValues(Told::FormType {
             place: 0,
             position: 0,
-            number: 0x86,
+            number: 0x88,
         })), Never), false;
     "bind_fragments_into of names and marks" =>
         (b":t ?", NAME_ALONE, Err(FragmentsOutcome::AsValues(Told::Mixed)), Asked), false;

@@ -2,7 +2,8 @@
 use crate::fragment_inputs::InPlaces;
 use crate::fragment_inputs::InPlaces::Named;
 use crate::fragment_inputs::PlainFragment::{
-    Decimal as Exact, Identifier as Name, Keyword, List, Qualified as Names, Rows, Value,
+    Assignments, Decimal as Exact, Identifier as Name, Identifiers as Columns, Keyword, List,
+    Qualified as Names, Rows, Value,
 };
 use crate::fragment_inputs::PlainItem::{Decimal as Number, Value as Item};
 use crate::inputs::Plain::{Bytes, Int, Null, UInt};
@@ -10,7 +11,8 @@ use crate::outcome::{Case, Outcome, cases, judged, row};
 use mysql_fragments::Fragments;
 use mysql_params::params::ToParamsError;
 use mysql_to_fragments::{
-    Decimal, Identifier, ListOf, Qualified, RowsOf, ToFragments, ToItem, ToRow, Word,
+    AssignmentsOf, Decimal, Identifier, Identifiers, ListOf, Qualified, RowsOf, ToFragments,
+    ToItem, ToRow, Word,
 };
 use std::alloc::Global;
 use std::time::Duration;
@@ -28,6 +30,8 @@ enum Arguments {
     ExactNumber,
     Name,
     Names,
+    Columns,
+    Changes,
     Word,
     List,
     Rows,
@@ -37,6 +41,7 @@ enum Arguments {
     LongDuration,
     LongInList,
     LongInRow,
+    LongInChange,
 }
 
 /// The fragments, or how the refusal is shown.
@@ -55,6 +60,13 @@ const ARGUMENTS: &[(&str, (Arguments, Wanted))] = cases! {
     "to_fragments of an identifier" => Arguments::Name, Ok(Named(&[(b"a", Name(b"n"))]));
     "to_fragments of a qualified identifier" =>
         Arguments::Names, Ok(Named(&[(b"a", Names(&[b"db", b"t"]))]));
+    "to_fragments of columns" =>
+        Arguments::Columns, Ok(Named(&[(b"a", Columns(&[&[b"n"], &[b"db", b"t"]]))]));
+    "to_fragments of assignments" =>
+        Arguments::Changes,
+        Ok(Named(&[(b"a", Assignments(&[
+            (&[b"n"], Item(Bytes(b"x"))), (&[b"db", b"t"], Item(Bytes(b"y"))),
+        ]))]));
     "to_fragments of a keyword" => Arguments::Word, Ok(Named(&[(b"a", Keyword(b"DESC"))]));
     "to_fragments of a list" =>
         Arguments::List, Ok(Named(&[(b"a", List(&[Item(Bytes(b"x")), Item(Bytes(b"y"))]))]));
@@ -80,6 +92,8 @@ const ARGUMENTS: &[(&str, (Arguments, Wanted))] = cases! {
     "to_fragments of a duration that is too long" => Arguments::LongDuration, LONG;
     "to_fragments of a duration that is too long in a list" => Arguments::LongInList, LONG;
     "to_fragments of a duration that is too long in a row" => Arguments::LongInRow, LONG;
+    "to_fragments of a duration that is too long in an assignment" =>
+        Arguments::LongInChange, LONG;
 };
 
 /// How the arguments made their fragments.
@@ -98,6 +112,8 @@ fn fragments_of(alloc: Global, arguments: Arguments) -> Made {
         Arguments::ExactNumber => (("a", Decimal(b"-1.50")),).to_fragments(alloc),
         Arguments::Name => (("a", Identifier(b"n")),).to_fragments(alloc),
         Arguments::Names => qualified(alloc),
+        Arguments::Columns => columns(alloc),
+        Arguments::Changes => changes(alloc, "x", "y"),
         Arguments::Word => (("a", Word(b"DESC")),).to_fragments(alloc),
         Arguments::List => list(alloc, &["x", "y"]),
         Arguments::Rows => rows(alloc, &[(-1i8, Some("x")), (2, None)]),
@@ -112,12 +128,27 @@ fn fragments_of(alloc: Global, arguments: Arguments) -> Made {
         }
         Arguments::LongInList => list(alloc, &[Duration::ZERO, Duration::from_secs(TOO_LONG)]),
         Arguments::LongInRow => rows(alloc, &[("x", Duration::from_secs(TOO_LONG))]),
+        Arguments::LongInChange => { changes(alloc, Duration::ZERO, Duration::from_secs(TOO_LONG)) }
     }
 }
 
 fn qualified(alloc: Global) -> Made {
     let parts: [&[u8]; 2] = [b"db", b"t"];
     (("a", Qualified(parts.as_slice())),).to_fragments(alloc)
+}
+
+fn columns(alloc: Global) -> Made {
+    let name: [&[u8]; 1] = [b"n"];
+    let parts: [&[u8]; 2] = [b"db", b"t"];
+    let columns = [name.as_slice(), parts.as_slice()];
+    (("a", Identifiers(columns.as_slice())),).to_fragments(alloc)
+}
+
+fn changes<T: ToItem + Drop>(alloc: Global, first: T, second: T) -> Made {
+    let name: [&[u8]; 1] = [b"n"];
+    let parts: [&[u8]; 2] = [b"db", b"t"];
+    let changes = [(name.as_slice(), first), (parts.as_slice(), second)];
+    (("a", AssignmentsOf(changes.as_slice())),).to_fragments(alloc)
 }
 
 fn list<T: ToItem>(alloc: Global, items: &[T]) -> Made {

@@ -2,7 +2,7 @@
 use crate::fragment_inputs::InPlaces;
 use crate::fragment_inputs::InPlaces::{Named, Positional};
 use crate::fragment_inputs::PlainFragment::{
-    Decimal, Identifier, Keyword as Word, List, Qualified, Rows, Value,
+    Assignments, Decimal, Identifier, Identifiers, Keyword as Word, List, Qualified, Rows, Value,
 };
 use crate::fragment_inputs::PlainItem::{Decimal as Number, Value as Item};
 use crate::inputs::Plain;
@@ -72,6 +72,13 @@ const BOUND: &[(&str, Row)] = cases! {
         Asked;
     "bind_fragments of a qualified identifier" =>
         b"TABLE ?", Positional(&[Qualified(&[b"db", b"t"])]), None, Ok(b"TABLE `db`.`t`"), Asked;
+    "bind_fragments of columns" =>
+        b"t (?)", Positional(&[Identifiers(&[&[b"a"], &[b"t", b"b"]])]), None,
+        Ok(b"t (`a`, `t`.`b`)"), Asked;
+    "bind_fragments of assignments" =>
+        b"SET ?", Positional(&[Assignments(&[
+            (&[b"a"], Item(Int(1))), (&[b"t", b"b"], Item(Bytes(b"x"))), (&[b"c"], Number(b"2.5")),
+        ])]), None, Ok(b"SET `a` = 1, `t`.`b` = 'x', `c` = 2.5"), Asked;
     "bind_fragments of a keyword" =>
         b"ORDER BY a ?", Positional(&[Word(b"DESC")]), None, Ok(b"ORDER BY a DESC"), Asked;
     "bind_fragments of a repeated name" =>
@@ -148,6 +155,10 @@ const EXPANDED: &[(&str, ExpandedRow)] = cases! {
     "expanded_query of rows" =>
         b"VALUES ?", Positional(&[Rows(&[&[Item(Int(1))], &[Item(Bytes(b"x"))]])]), None,
         Ok((b"VALUES (?), (?)", &[Int(1), Bytes(b"x")])), Asked;
+    "expanded_query of assignments" =>
+        b"SET ?", Positional(&[Assignments(&[
+            (&[b"a"], Item(Int(1))), (&[b"b"], Number(b"2.5")), (&[b"c"], Item(Bytes(b"x"))),
+        ])]), None, Ok((b"SET `a` = ?, `b` = 2.5, `c` = ?", &[Int(1), Bytes(b"x")])), Asked;
     "expanded_query of names alone" =>
         b"SELECT ? FROM ?", Positional(&[Identifier(b"a`b"), Qualified(&[b"db", b"t"])]), None,
         Ok((b"SELECT `a``b` FROM `db`.`t`", &[])), Asked;

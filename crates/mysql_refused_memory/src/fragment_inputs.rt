@@ -1,7 +1,7 @@
 //! Fragments as plain data for tables, and how they are made.
 use crate::inputs::Plain;
 use crate::outcome::Is;
-use mysql_fragments::{Fragment, Fragments, Item, Keyword};
+use mysql_fragments::{ColumnAssignment, Fragment, Fragments, Item, Keyword};
 use std::alloc::{AllocError, Global};
 use std::collections::HashMap;
 
@@ -31,7 +31,12 @@ pub(crate) enum PlainFragment {
     Identifier(&'static [u8]),
     Qualified(&'static [&'static [u8]]),
     Keyword(&'static [u8]),
+    Identifiers(&'static [&'static [&'static [u8]]]),
+    Assignments(&'static [PlainAssignment]),
 }
+
+/// The names of a column, and what it is set to.
+pub(crate) type PlainAssignment = (&'static [&'static [u8]], PlainItem);
 
 impl PlainFragment {
     fn fragment(self, alloc: Global) -> Result<Fragment, AllocError> {
@@ -47,6 +52,12 @@ impl PlainFragment {
             }
             PlainFragment::Qualified(plain) => Ok(Fragment::Qualified(parts(alloc, plain)?)),
             PlainFragment::Keyword(word) => Ok(Fragment::Keyword(Keyword::new(alloc, word)?)),
+            PlainFragment::Identifiers(plain) => {
+                Ok(Fragment::Identifiers(columns(alloc, plain)?))
+            }
+            PlainFragment::Assignments(plain) => {
+                Ok(Fragment::Assignments(assignments(alloc, plain)?))
+            }
         }
     }
 }
@@ -73,6 +84,27 @@ fn parts(alloc: Global, plain: &[&[u8]]) -> Result<Vec<Vec<u8>>, AllocError> {
         parts.push(Vec::from_slice(alloc, *name)?)?;
     }
     Ok(parts)
+}
+
+fn columns(alloc: Global, plain: &[&[&[u8]]]) -> Result<Vec<Vec<Vec<u8>>>, AllocError> {
+    let mut columns = Vec::new(alloc);
+    for names in plain {
+        columns.push(parts(alloc, *names)?)?;
+    }
+    Ok(columns)
+}
+
+fn assignments(
+    alloc: Global,
+    plain: &[PlainAssignment],
+) -> Result<Vec<ColumnAssignment>, AllocError> {
+    let mut assignments = Vec::new(alloc);
+    for (names, item) in plain {
+        let column = parts(alloc, *names)?;
+        let item = item.item(alloc)?;
+        assignments.push(ColumnAssignment { column, item })?;
+    }
+    Ok(assignments)
 }
 
 /// What is given to the places of a query, as plain data.
@@ -135,6 +167,12 @@ impl Is<PlainFragment> for Fragment {
                 are_parts(found, wanted)
             }
             (Fragment::Keyword(found), PlainFragment::Keyword(wanted)) => found.is(wanted),
+            (Fragment::Identifiers(found), PlainFragment::Identifiers(wanted)) => {
+                are_columns(found, wanted)
+            }
+            (Fragment::Assignments(found), PlainFragment::Assignments(wanted)) => {
+                are_assignments(found, wanted)
+            }
             _ => false,
         }
     }
@@ -202,6 +240,24 @@ fn are_entries(
         match found.get(*name) {
             Some(found) if found.is(*fragment) => {}
             _ => return false,
+        }
+    }
+    found.len() == wanted.len()
+}
+
+fn are_columns(found: &[Vec<Vec<u8>>], wanted: &[&[&[u8]]]) -> bool {
+    for (found, wanted) in found.iter().zip(wanted) {
+        if !are_parts(found, *wanted) {
+            return false;
+        }
+    }
+    found.len() == wanted.len()
+}
+
+fn are_assignments(found: &[ColumnAssignment], wanted: &[PlainAssignment]) -> bool {
+    for (found, (names, item)) in found.iter().zip(wanted) {
+        if !are_parts(found.column.as_slice(), *names) || !found.item.is(*item) {
+            return false;
         }
     }
     found.len() == wanted.len()

@@ -2,7 +2,7 @@
 use crate::fragment_inputs::InPlaces;
 use crate::fragment_inputs::InPlaces::{Named, Positional};
 use crate::fragment_inputs::PlainFragment::{
-    Decimal, Identifier, Keyword, List, Qualified, Rows, Value,
+    Assignments, Decimal, Identifier, Identifiers, Keyword, List, Qualified, Rows, Value,
 };
 use crate::fragment_inputs::PlainItem::{Decimal as Number, Value as Item};
 use crate::inputs::Plain::{Bytes, Float, Int, Null};
@@ -48,6 +48,10 @@ const ANYWHERE: &[(&str, Row)] = cases! {
         b"TABLE ? ORDER BY ? ?",
         Positional(&[Qualified(&[b"db", b"t"]), Identifier(b"a`b"), Keyword(b"DESC")]),
         Ok(b"TABLE `db`.`t` ORDER BY `a``b` DESC"), Asked;
+    "bind_fragments_anywhere of columns and assignments" =>
+        b"? = ?",
+        Positional(&[Identifiers(&[&[b"a"]]), Assignments(&[(&[b"b"], Item(Bytes(b"it's")))])]),
+        Ok(b"`a` = `b` = _utf8mb4'it''s'"), Asked;
     "bind_fragments_anywhere of an unsteady query" =>
         b"x\\:a", NAME_OF_A, Err("Unsteady { at: 1 }"), Never;
     "bind_fragments_anywhere of a query that is not portable" =>
