@@ -1,7 +1,7 @@
 //! Random fragments.
 use crate::borrowed::Run;
 use crate::borrowed::values::{pick, picked, value};
-use mysql_fragments::{Fragment, Fragments, Item, Keyword};
+use mysql_fragments::{ColumnAssignment, Fragment, Fragments, Item, Keyword};
 use std::alloc::AllocError;
 
 // Names with and without a fault.
@@ -27,20 +27,22 @@ pub fn random_fragments(run: &mut Run, count: usize) -> Result<Fragments, AllocE
 
 // A fragment of any kind, perhaps with a fault.
 fn fragment(run: &mut Run, floats: bool) -> Result<Fragment, AllocError> {
-    match run.random.below(16) {
+    match run.random.below(18) {
         0..=5 => Ok(Fragment::Value(value(run, floats)?)),
         6..=8 => Ok(Fragment::List(list(run, floats)?)),
         9..=11 => Ok(Fragment::Rows(rows(run, floats)?)),
+        12..=13 => Ok(Fragment::Assignments(assignments(run, floats)?)),
         _ => named_fragment(run),
     }
 }
 
 // A fragment without values.
 fn named_fragment(run: &mut Run) -> Result<Fragment, AllocError> {
-    match run.random.below(5) {
+    match run.random.below(6) {
         0 => Ok(Fragment::Decimal(picked(run, NUMBERS)?)),
         1 => Ok(Fragment::Keyword(Keyword::new(run.alloc, pick(&mut run.random, WORDS))?)),
         2 => Ok(Fragment::Qualified(names(run)?)),
+        3 => Ok(Fragment::Identifiers(columns(run)?)),
         _ => Ok(Fragment::Identifier(picked(run, NAMES)?)),
     }
 }
@@ -52,6 +54,27 @@ fn names(run: &mut Run) -> Result<Vec<Vec<u8>>, AllocError> {
         names.push(picked(run, NAMES)?)?;
     }
     Ok(names)
+}
+
+// Up to three columns.
+fn columns(run: &mut Run) -> Result<Vec<Vec<Vec<u8>>>, AllocError> {
+    let mut columns = Vec::with_capacity(run.alloc, 3)?;
+    for _ in 0..run.random.below(4) {
+        columns.push(names(run)?)?;
+    }
+    Ok(columns)
+}
+
+// Up to three assignments.
+fn assignments(run: &mut Run, floats: bool) -> Result<Vec<ColumnAssignment>, AllocError> {
+    let decimals = run.random.one_in(4);
+    let mut assignments = Vec::with_capacity(run.alloc, 3)?;
+    for _ in 0..run.random.below(4) {
+        let column = names(run)?;
+        let item = item(run, floats, decimals)?;
+        assignments.push(ColumnAssignment { column, item })?;
+    }
+    Ok(assignments)
 }
 
 // Up to five items.
