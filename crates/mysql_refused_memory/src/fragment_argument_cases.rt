@@ -96,6 +96,11 @@ const ARGUMENTS: &[(&str, (Arguments, Wanted))] = cases! {
         Arguments::LongInChange, LONG;
 };
 
+// The names of a column, and those of a column of a table.
+const NAME: &[&[u8]] = &[b"n"];
+
+const NAMES: &[&[u8]] = &[b"db", b"t"];
+
 /// How the arguments made their fragments.
 fn made(alloc: Global, arguments: Arguments, wanted: Wanted) -> Outcome {
     judged(fragments_of(alloc, arguments), wanted)
@@ -113,7 +118,7 @@ fn fragments_of(alloc: Global, arguments: Arguments) -> Made {
         Arguments::Name => (("a", Identifier(b"n")),).to_fragments(alloc),
         Arguments::Names => qualified(alloc),
         Arguments::Columns => columns(alloc),
-        Arguments::Changes => changes(alloc, "x", "y"),
+        Arguments::Changes => changes(alloc, &[(NAME, "x"), (NAMES, "y")]),
         Arguments::Word => (("a", Word(b"DESC")),).to_fragments(alloc),
         Arguments::List => list(alloc, &["x", "y"]),
         Arguments::Rows => rows(alloc, &[(-1i8, Some("x")), (2, None)]),
@@ -128,7 +133,10 @@ fn fragments_of(alloc: Global, arguments: Arguments) -> Made {
         }
         Arguments::LongInList => list(alloc, &[Duration::ZERO, Duration::from_secs(TOO_LONG)]),
         Arguments::LongInRow => rows(alloc, &[("x", Duration::from_secs(TOO_LONG))]),
-        Arguments::LongInChange => { changes(alloc, Duration::ZERO, Duration::from_secs(TOO_LONG)) }
+        Arguments::LongInChange => {
+            let long = Duration::from_secs(TOO_LONG);
+            changes(alloc, &[(NAME, Duration::ZERO), (NAMES, long)])
+        }
     }
 }
 
@@ -144,11 +152,8 @@ fn columns(alloc: Global) -> Made {
     (("a", Identifiers(columns.as_slice())),).to_fragments(alloc)
 }
 
-fn changes<T: ToItem + Drop>(alloc: Global, first: T, second: T) -> Made {
-    let name: [&[u8]; 1] = [b"n"];
-    let parts: [&[u8]; 2] = [b"db", b"t"];
-    let changes = [(name.as_slice(), first), (parts.as_slice(), second)];
-    (("a", AssignmentsOf(changes.as_slice())),).to_fragments(alloc)
+fn changes<T: ToItem>(alloc: Global, changes: &[(&[&[u8]], T)]) -> Made {
+    (("a", AssignmentsOf(changes)),).to_fragments(alloc)
 }
 
 fn list<T: ToItem>(alloc: Global, items: &[T]) -> Made {
