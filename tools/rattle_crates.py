@@ -1,4 +1,5 @@
 """The crates of the repository: their files, what a `use` or a path names, and the paths that a caller can write."""
+import functools
 import pathlib
 import re
 
@@ -109,6 +110,33 @@ def resolved(source, words):
             if path[-1] == words[-1] and path != words[-1:]:
                 return resolved(place, path)
     return None
+
+
+HANDED_ON = re.compile(r"^pub use Rattle\.(\w+)\.specs\.([\w.]+)$", re.M)
+GHOST_USE = re.compile(r"ghost use Rattle\.(\w+)\.specs\.([\w.]+?)(?:\.\{(?P<names>[^}]*)\}| as (?P<alias>\w+));")
+
+
+@functools.cache
+def defined_in(crate, module):
+    """The crate whose definitions a module has: this one, or a lower one whose module it hands on."""
+    library = ROOT / "crates" / crate / "specs/Lib.antt"
+    handed_on = HANDED_ON.findall(library.read_text()) if library.is_file() else []
+    lower = next((lower for lower, name in handed_on if name == module), None)
+    return defined_in(lower, module) if lower else crate
+
+
+def definitions(source, holder):
+    """The paths of the definitions that contracts name in a file, or in an `impl` or a trait of it, by their names there."""
+    found = {}
+    for item in [*source.items, *(holder.members if holder else [])]:
+        if holder and holder.kind == "trait" and item.kind == "ghost" and item.name != "use":
+            found[item.name] = f"{holder.name}.{item.name}"
+        match = GHOST_USE.match(on_one_line(item.text)) if item.kind == "ghost" else None
+        if match:
+            path = f"{defined_in(match[1], match[2])}.{match[2]}"
+            names = [name.strip() for name in (match["names"] or "").split(",") if name.strip()]
+            found.update({name: f"{path}.{name}" for name in names} or {match["alias"]: path})
+    return found
 
 
 def public_items(source):

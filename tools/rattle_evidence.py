@@ -39,7 +39,8 @@ class Edit:
     is_apart: bool
 
     def __str__(self):
-        return f"`{self.crate}/{self.name}`" + ("*" if self.is_apart else "")
+        """Its name as the page has it. A bare asterisk would begin or end emphasis."""
+        return f"`{self.crate}/{self.name}`" + ("\\*" if self.is_apart else "")
 
 
 def all_edits():

@@ -20,10 +20,6 @@ class Record:
     comment: str
     fields: list
 
-    @property
-    def link(self):
-        return f"[{self.path.name}](../{self.path.relative_to(ROOT)})"
-
 
 def records_of(path):
     """The records of a file of definitions."""
