@@ -259,8 +259,8 @@ def bind_anywhere(
     It is a text for MySQL and MariaDB. The query has to be ASCII without a backslash, also in its comments, and portable.
 
     A text of printable ASCII without a backslash is written as ``_utf8mb4'it''s'``, other UTF-8 as ``_utf8mb4 0xC3A9``,
-    and bytes that aren't UTF-8 as ``0xFF``; all else as by bind, also what isn't one value. "Steady texts" in
-    docs/LIMITS.md says where a server takes no such literal. The zone is as for bind.
+    and bytes that aren't UTF-8 as ``0xFF``; all else as by bind, also what isn't one value. "Steady binding" in
+    docs/RULES.md says where a server takes no such literal. The zone is as for bind.
 
     Of the parameters it raises what bind raises. Then, of the query, the first that holds: UnsteadyError; UnportableError;
     those of bind from MixedError on; UnsteadyFragmentError, for a name that isn't ASCII without a backslash. In

@@ -264,7 +264,7 @@ pub fn bind_fragments_in(
 /// or MariaDB. The query has to be ASCII without a backslash, also in its comments, and portable.
 ///
 /// A text of printable ASCII without a backslash is written as `_utf8mb4'it''s'`, other UTF-8 as `_utf8mb4 0xC3A9`, and
-/// bytes that aren't UTF-8 as `0xFF`. "Steady texts" in docs/LIMITS.md says where a server takes no such literal.
+/// bytes that aren't UTF-8 as `0xFF`. "Steady binding" in docs/RULES.md says where a server takes no such literal.
 ///
 /// ```
 /// use mysql_params::{Params, bind_anywhere};
