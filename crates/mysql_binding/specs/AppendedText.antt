@@ -1,5 +1,4 @@
--- The text of values that are looked up, written to the end of another text: for
--- `append_parsed`, which is lent to the crates above.
+-- The text of a query with looked-up values, appended to another text: for `append_surveyed`.
 use Rattle.std.specs.Prelude.{◌≡◌, ◌++◌, ℕ, List, None, Ok}
 use Rattle.mysql_values.specs.declared.value.Value.{Value}
 use Rattle.mysql_named_params.specs.Tokens.{Token}
@@ -12,11 +11,11 @@ use Rattle.mysql_binding.specs.FirstCause.{mixed_cause}
 use Rattle.mysql_binding.specs.LiteralForm.{Literals, LiteralFacts}
 use Rattle.mysql_binding.specs.WrittenText.{IsGivenText}
 
--- the values are those that are given to the places of a query with these tokens
+-- the query isn't mixed, and the values are those that are given to its places
 abbrev pub AreFound : Given → List Value → List Token → Type 0
 AreFound given values ts = (mixed_cause ts ≡ None) × (lookup given (names ts) ≡ Ok values)
 
--- after these bytes stands the text of the query with these values, and nothing else
+-- `after` is `before`, followed by the text of the query with these values
 pub record IsAppended (literal : Literals) (IsKnown : LiteralFacts) (reading : Reading)
     (query : List ℕ) (values : List Value) (before after : List ℕ) : Type 0 where
   pub text : List ℕ

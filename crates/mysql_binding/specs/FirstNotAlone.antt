@@ -1,4 +1,4 @@
--- Which places of a query stand alone, and the first that doesn't.
+-- The places of a query that stand alone, and the first that doesn't.
 use Rattle.std.specs.Prelude.{◌+◌, ◌++◌, ◌==◌, ◌&&◌, ◌||◌, ℕ, Bool, true, List, [], ◌∷◌, if◌then◌else◌, length, Option, Some, None, codes}
 use Rattle.std.specs.List.{list_any}
 use Rattle.mysql_named_params.specs.Bytes.{is_white_space}
@@ -40,8 +40,9 @@ abbrev pub stands_alone : List ℕ → List ℕ → Bool
 stands_alone before after =
     none_or_last may_stand_before before && none_or_first may_stand_after after
 
--- Number and position of the first place that doesn't stand alone, if `place` places and this text
--- stand before the tokens; `IsFirstNotAlone` says the same (`laws::first_not_alone_is_first`).
+-- Number and position of the first place that doesn't stand alone. `place` places and the text
+-- `before` come before the tokens. `IsFirstNotAlone` says the same
+-- (`laws::first_not_alone_is_first`).
 abbrev pub first_not_alone_from : ℕ → List ℕ → List Token → Option (ℕ × ℕ)
 first_not_alone_from place before [] = None
 first_not_alone_from place before (Name name ∷ ts) =

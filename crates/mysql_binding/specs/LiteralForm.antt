@@ -1,5 +1,5 @@
--- Forms in which the literals of values are written: what a form writes for each value, and what is
--- known of it. For the trait `LiteralForm`, which is lent to the crate above.
+-- Forms in which the literals of values are written: the literal of each value in a form, and the
+-- facts that are known about it. For the trait `LiteralForm`.
 use Rattle.std.specs.Prelude.{◌≡◌, ℕ, Bool, List, [], ◌∷◌, length, Option, Some, is_none, unwrap_or, ⊤}
 use Rattle.mysql_values.specs.declared.value.Value.{Value}
 use Rattle.mysql_values.specs.Literal.{is_float}
@@ -10,7 +10,7 @@ use Rattle.mysql_sql_text.specs.LiteralShape.{IsLiteral}
 abbrev pub Literals : Type 0
 Literals = Value → Option (List ℕ)
 
--- what is known of a text as the literal of a value
+-- the facts that are known about a text as the literal of a value
 abbrev pub LiteralFacts : Type 1
 LiteralFacts = Value → List ℕ → Type 0
 
@@ -18,11 +18,11 @@ LiteralFacts = Value → List ℕ → Type 0
 abbrev pub LackFloats : Literals → Type 0
 LackFloats literal = (value : Value) → is_none (literal value) ≡ is_float value
 
--- the bytes of the literal of a value; no bytes for a float, which has none
+-- the bytes of the literal of a value; none for a float, which has no literal
 abbrev pub written_literal : Literals → Value → List ℕ
 written_literal literal value = unwrap_or (literal value) []
 
--- the length of that literal
+-- the length of these bytes
 abbrev pub literal_len : Literals → Value → ℕ
 literal_len literal value = length (written_literal literal value)
 
@@ -30,7 +30,7 @@ literal_len literal value = length (written_literal literal value)
 abbrev pub IsPlainLiteral : Bool → LiteralFacts
 IsPlainLiteral mode value text = IsLiteral mode text × ReadsAs mode value text
 
--- as many texts as values, and each is the literal of its value, with what is known of it
+-- there are as many texts as values, and each is the literal of its value, with its known facts
 abbrev pub AreWrittenAs : Literals → LiteralFacts → List Value → List (List ℕ) → Type 0
 AreWrittenAs literal IsKnown [] [] = ⊤
 AreWrittenAs literal IsKnown [] (text ∷ texts) = ⊥

@@ -1,5 +1,4 @@
--- What a text is written from, and its length: for `measured_text` and `fill_measured`, which are
--- lent to the crates above.
+-- The values that a text is written from, and its length: for `measured_text` and `fill_measured`.
 use Rattle.std.specs.Prelude.{◌≡◌, ◌+◌, ◌<◌, ◌^◌, false, ℕ, List, length, map, None, Ok}
 use Rattle.std.specs.List.{All, sum}
 use Rattle.mysql_values.specs.declared.value.Value.{Value}
@@ -17,14 +16,14 @@ use Rattle.mysql_binding.specs.WrittenText.{IsGivenText}
 use Rattle.mysql_binding.specs.declared.binding.literals.MeasuredText.{MeasuredText}
 use Rattle.mysql_binding.specs.declared.binding.survey.Survey.{Survey}
 
--- the values were looked up, and there is no cause to refuse
+-- the lookup gave these values, and there is no cause to refuse
 abbrev pub IsLookedUp : List Token → Given → List Value → Type 0
 IsLookedUp ts given values =
     (mixed_cause ts ≡ None) × (lookup given (names ts) ≡ Ok values) × (later_cause ts values ≡ None)
 
--- The values are those that are given to the places of a query with these tokens, and no cause
--- refuses it. The lengths are those of their literals and of the text, which is at most
--- `isize::MAX` bytes long.
+-- The values are those for the places of a query with these tokens, and there is no cause to
+-- refuse. The lengths are those of their literals and of the text. The text has at most
+-- `isize::MAX` bytes.
 pub record IsMeasured (literal : Literals) (ts : List Token) (given : Given)
     (measured : MeasuredText) : Type 0 where
   pub looked_up : IsLookedUp ts given (owned_values measured.values.items)
@@ -34,8 +33,8 @@ pub record IsMeasured (literal : Literals) (ts : List Token) (given : Given)
   pub len_is : measured.len ≡ pieces_len ts + sum measured.lens.items
   pub fits : measured.len < 2 ^ 63
 
--- the values can be those of a query with this survey, and none is a float; the lengths are those
--- of their literals and of the text
+-- The values can be those of a query with this survey, and none is a float. The lengths are those
+-- of their literals and of the text.
 pub record IsOfSurvey (literal : Literals) (survey : Survey) (values : List Value)
     (measured : MeasuredText) : Type 0 where
   pub values_are : owned_values measured.values.items ≡ values
@@ -44,10 +43,10 @@ pub record IsOfSurvey (literal : Literals) (survey : Survey) (values : List Valu
   pub lens_are : measured.lens.items ≡ map (literal_len literal) values
   pub len_is : measured.len ≡ survey.piece_bytes + sum measured.lens.items
 
--- what is known of a literal before it is written: that its value has fields of their types
+-- the fact that is known about a literal before it is written: the fields of its value are in range
 abbrev pub IsOfFields : LiteralFacts
 IsOfFields value text = FieldsInRange value
 
--- the text of a query with these tokens and what is given to it has this length
+-- the text of a query with these tokens and parameters has this length
 abbrev pub HasGivenLength : Literals → List Token → Given → ℕ → Type 0
 HasGivenLength literal ts given = HasTextOf (IsGivenText literal IsOfFields ts given)

@@ -1,5 +1,5 @@
--- What contracts see of a query that is parsed once: the query and the mode in which it is read;
--- and what is kept of its places.
+-- The view that contracts have of a query that is parsed once: the query and its mode. Also the
+-- facts that are kept about its places.
 use Rattle.std.specs.Prelude.{◌≡◌, ℕ, Bool, List, ◌&&◌, nat_eq}
 use Rattle.std.proofs.Math.Bool.{beq}
 use Rattle.std.specs.Cmp.Lexicographic.{pointwise}
@@ -21,6 +21,6 @@ abbrev pub AreParsed : Survey → List FoundPlace → Reading → List ℕ → T
 AreParsed survey places reading query = (ts : List Token) → IsTokensIn reading query ts →
     IsSurvey survey ts × (places ≡ found_places ts)
 
--- the two are equal, as a test
+-- whether the two are equal
 abbrev pub same_query : QueryInMode → QueryInMode → Bool
 same_query p q = beq p.mode q.mode && pointwise nat_eq p.query q.query

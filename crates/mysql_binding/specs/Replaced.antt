@@ -3,15 +3,15 @@ use Rattle.std.specs.Prelude.{ℕ, Bool, List, [], ◌∷◌, ◌++◌, ⊤}
 use Rattle.mysql_sql_text.specs.LiteralShape.{IsLiteral}
 use Rattle.mysql_named_params.specs.Tokens.{Token, IsTokens, Name, Mark}
 
--- the tokens with the first list in place of the first name or mark, and so on; all others as they
--- were, and so are places for which no list is left
+-- The tokens with the first list in place of the first name or mark, the next list in place of the
+-- next, and so on. All other tokens are unchanged, and so are places for which no list is left.
 abbrev pub with_literal_tokens : List Token → List (List Token) → List Token
 with_literal_tokens [] lists = []
 with_literal_tokens (Name name ∷ ts) (list ∷ lists) = list ++ with_literal_tokens ts lists
 with_literal_tokens (Mark ∷ ts) (list ∷ lists) = list ++ with_literal_tokens ts lists
 with_literal_tokens (t ∷ ts) lists = t ∷ with_literal_tokens ts lists
 
--- as many lists as texts, and each is the tokens of its text, read alone
+-- there are as many lists as texts, and each is the tokens of its text, read by itself
 abbrev pub AreTokensOf : Bool → List (List ℕ) → List (List Token) → Type 0
 AreTokensOf mode [] [] = ⊤
 AreTokensOf mode [] (list ∷ lists) = ⊥

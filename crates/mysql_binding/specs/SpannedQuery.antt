@@ -1,5 +1,4 @@
--- What contracts say of a query whose places are given by plain numbers, which is lent to the crate
--- above.
+-- Contracts about a query whose places are given by plain numbers.
 use Rattle.std.specs.Prelude.{◌≡◌, List, ℕ, take, Some, Err}
 use Rattle.mysql_named_params.specs.declared.places.Reading.{Reading}
 use Rattle.mysql_params_core.specs.GivenValues.{Given}
@@ -15,11 +14,11 @@ abbrev pub HasOwnSpans : SpannedQuery → Reading → Type 0
 HasOwnSpans spanned reading =
     AreSpansOf spanned.survey spanned.spans.now reading spanned.query.now
 
--- what stands in the first places, as many as the survey has names, each without its first byte
+-- the bytes of the first places, as many as the survey has names, each without its first byte
 abbrev pub spanned_names : SpannedQuery → List (List ℕ)
 spanned_names spanned = names_at (take spanned.survey.names spanned.spans.now) spanned.query.now
 
--- if the error refuses what is given, it does so for these names
+-- if the error refuses the parameters, it does so for these names
 abbrev pub RefusesNames : SpannedQuery → Given → BindError → Type 0
 RefusesNames spanned given error = (refusal : LookupRefusal) →
     cause_of error ≡ Some (refused_params refusal) →

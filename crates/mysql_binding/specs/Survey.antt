@@ -1,5 +1,5 @@
--- What is known of the places of a query before values are looked up: for the invariants of
--- `ParsedQuery` and of `SurveyedQuery`, which is lent to the crates above.
+-- The facts about the places of a query that are known before values are looked up: for the
+-- invariants of `ParsedQuery` and `SurveyedQuery`.
 use Rattle.std.specs.Prelude.{◌≡◌, ℕ, List, length}
 use Rattle.mysql_named_params.specs.Tokens.{Token}
 use Rattle.mysql_named_params.specs.NamesAndMarks.{names, marks}
@@ -9,8 +9,8 @@ use Rattle.mysql_binding.specs.FirstNotAlone.{first_not_alone}
 use Rattle.mysql_binding.specs.TextLength.{pieces_len}
 use Rattle.mysql_binding.specs.declared.binding.survey.Survey.{Survey}
 
--- these tokens have this many names and marks, this is the first place that doesn't stand alone,
--- and the pieces have this many bytes
+-- The tokens have this many names and marks. This is their first place that doesn't stand alone.
+-- The pieces have this many bytes.
 abbrev pub IsSurvey : Survey → List Token → Type 0
 IsSurvey survey ts =
     (survey.names ≡ length (names ts)) × (survey.marks ≡ marks ts)

@@ -1,20 +1,21 @@
-//! Why a query and parameters give no text.
+//! The causes for which query and parameters give no text.
 use mysql_params_core::params::ParamsError;
 use std::alloc::AllocError;
 use thiserror::Error;
 
-/// Why [`bind_text`](crate::bind_text) or [`bind_text_in`](crate::bind_text_in) gave no text: the
-/// first cause, in this order.
+/// The cause for which [`bind_text`](crate::bind_text) or [`bind_text_in`](crate::bind_text_in)
+/// gave no text. It is the first cause, in this order.
 #[derive(Debug, PartialEq, Drop, Error)]
 pub enum BindError {
     /// The query has both named and positional parameters.
     #[error("Named and positional params in one query")]
     Mixed,
-    /// What [`Params::into_values`](mysql_params_core::params::Params::into_values) refuses: a name
-    /// without a value, or parameters of the other kind. It is never out of memory.
+    /// [`Params::into_values`](mysql_params_core::params::Params::into_values) refuses the query's
+    /// names: a name has no value, or the parameters are of the other kind. It is never out of
+    /// memory.
     #[error(transparent)]
     Params(ParamsError),
-    /// The query has no names, and its marks are not as many as the values.
+    /// The query has no names, and the number of its marks isn't the number of values.
     #[error("Query has {marks} marks and {values} values")]
     MarkCount {
         /// The marks of the query.
@@ -22,7 +23,7 @@ pub enum BindError {
         /// The values given.
         values: usize,
     },
-    /// A name or mark doesn't stand alone; the first such is reported.
+    /// A name or mark doesn't stand alone. The first one that doesn't is reported.
     #[error("Place {place} at byte {at} does not stand alone")]
     NotAlone {
         /// Its number among the names and marks, from 0.
@@ -30,13 +31,13 @@ pub enum BindError {
         /// The index of its first byte in the query.
         at: usize,
     },
-    /// The value for a place is a float, which has no literal; the first such is reported.
+    /// The value for a place is a float, which has no literal. The first float is reported.
     #[error("Float at place {place}")]
     Float {
         /// The number of its place, from 0.
         place: usize,
     },
-    /// Memory was refused, or the text would be longer than any text can be.
+    /// Memory was refused, or the text would be longer than `isize::MAX` bytes.
     #[error("out of memory")]
     Memory(AllocError),
 }

@@ -1,22 +1,23 @@
-//! Why a query and borrowed pairs give no text.
+//! The causes for which a query and borrowed pairs give no text.
 use crate::bind_error::BindError;
 use thiserror::Error;
 
-/// Why a query and borrowed pairs gave no text.
+/// The cause for which a query and borrowed pairs gave no text.
 ///
-/// It is of [`bind_pairs`](crate::bind_pairs), [`bind_pairs_into`](crate::bind_pairs_into) and of
-/// `bind_pairs` and `append_pairs` of a [`ParsedQuery`](crate::ParsedQuery). Of at most 64 pairs it
-/// is the first cause, in this order. Of more, out of memory may come before a name that is given
-/// twice.
+/// [`bind_pairs`](crate::bind_pairs), [`bind_pairs_into`](crate::bind_pairs_into), and `bind_pairs`
+/// and `append_pairs` of a [`ParsedQuery`](crate::ParsedQuery) return it. For at most 64 pairs it
+/// is the first cause, in this order. For more pairs, out of memory can be reported before a name
+/// that is given twice.
 #[derive(Debug, PartialEq, Drop, Error)]
 pub enum BindPairsError {
-    /// The name of a pair is that of an earlier one; the first such pair is reported.
+    /// A pair has the name of an earlier pair. The first such pair is reported.
     #[error("Redefinition of a named parameter by pair {index}")]
     Redefined {
         /// Its number among the pairs, from 0.
         index: usize,
     },
-    /// What [`bind_text_in`](crate::bind_text_in) refuses, or out of memory.
+    /// [`bind_text_in`](crate::bind_text_in) would be refused for this cause, or memory was
+    /// refused.
     #[error(transparent)]
     Bind(BindError),
 }

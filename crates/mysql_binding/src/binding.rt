@@ -63,23 +63,29 @@ use mysql_params_core::params::{BorrowedParams, Params, place_values};
 use mysql_values::value::ValueRef;
 use std::alloc::Global;
 
-/// The query with the literal of a value in the place of each name and mark: the values of the
-/// names, or the positional ones in their order. Nothing else of the query changes.
+/// Binds parameters to a query: returns it with a literal in place of each name and mark. A name
+/// gets its own value. Marks get the positional values, in order. Nothing else of the query
+/// changes.
 ///
-/// The first of these causes refuses it: names and marks in one query; what [`Params::into_values`]
-/// refuses for its names; without names, marks that are not as many as the values; a place that
-/// doesn't stand alone; a float. A place stands alone if nothing, white space or one of
-/// `(,=<>+-*/%&|^~` stands directly before it, and nothing, white space or one of `),;=<>+-*/%&|^!`
-/// directly after it. The parameters are consumed, even if the call refuses.
+/// The call is refused for the first of these causes:
+/// - the query has both names and marks;
+/// - [`Params::into_values`] refuses the query's names;
+/// - the query has no names, and the number of its marks isn't the number of values;
+/// - a name or mark doesn't stand alone;
+/// - a value is a float.
 ///
-/// The flag is the server's mode, in which the query is read, as
-/// [`ParsedNamedParams`](mysql_named_params::named_params::ParsedNamedParams) reads it, and the
-/// literals are written: with `true`, as for an `sql_mode` with `NO_BACKSLASH_ESCAPES`, a backslash
-/// is a byte like any other; with `false` it escapes the byte after it in a string.
+/// A name or mark stands alone if nothing, white space or one of `(,=<>+-*/%&|^~` is directly
+/// before it, and nothing, white space or one of `),;=<>+-*/%&|^!` directly after it. The
+/// parameters are consumed, even if the call is refused.
 ///
-/// `Memory` may come in place of any other result, except for a query with names and marks. It also
-/// comes if the text would be longer than `isize::MAX` bytes.
-// A query has one token list in each mode (`mysql_named_params::laws::one_token_list`), so the
+/// `no_backslash_escape` is the server's mode. The query is read and the literals are written in
+/// this mode, as [`ParsedNamedParams`](mysql_named_params::named_params::ParsedNamedParams) reads a
+/// query. With `true`, as for an `sql_mode` with `NO_BACKSLASH_ESCAPES`, a backslash is a byte like
+/// any other. With `false`, it escapes the byte after it in a string.
+///
+/// `Memory` can come in place of any other result, except for a query with both names and marks. It
+/// also comes if the text would be longer than `isize::MAX` bytes.
+// A query has one token list in each mode (`mysql_named_params::laws::one_token_list`). So all
 // clauses speak of the same `ts`.
 pub fn bind_text_in(
     alloc: Global,
@@ -106,9 +112,9 @@ pub fn bind_text_in(
     bind_borrowed_in(alloc, query, params.borrowed(), reading)
 }
 
-/// The query with the literal of a value in the place of each name and mark, in the mode in which a
-/// backslash escapes: [`bind_text_in`] with `false`. See there for what refuses it.
-// A query has one token list (`mysql_named_params::laws::one_token_list`), so the clauses speak of
+/// Binds parameters to a query in the mode in which a backslash escapes: [`bind_text_in`] with
+/// `false`. It is refused for the same causes.
+// A query has one token list (`mysql_named_params::laws::one_token_list`). So all clauses speak of
 // the same `ts`.
 pub fn bind_text(alloc: Global, query: &[u8], params: Params) -> Result<Vec<u8>, BindError>
     ensures bound { OnTokens with_backslashes query.now (λ ts. IfOk result (λ text.
@@ -126,19 +132,18 @@ pub fn bind_text(alloc: Global, query: &[u8], params: Params) -> Result<Vec<u8>,
     bind_text_in(alloc, query, params, false)
 }
 
-/// The number of places that are kept on the stack while a query is surveyed, so that a query with
-/// no more of them isn't walked again.
+/// The number of places that are kept on the stack while a query is surveyed. A query with at most
+/// this many places isn't walked again.
 pub const KEPT_PLACES: usize = 16;
 
-/// What stands in the array before a place is kept.
+/// The content of each array element in which no place is kept yet.
 pub const NO_PLACE: FoundPlace = FoundPlace {
     before: 0,
     kind: PlaceKind::Mark,
     len: 0,
 };
 
-/// [`bind_text_in`] with borrowed parameters, of a query in any reading. It is lent to the crates
-/// above.
+/// [`bind_text_in`] with borrowed parameters, for a query in any reading. For the crates above.
 pub fn bind_borrowed_in(
     alloc: Global,
     query: &[u8],
@@ -163,8 +168,8 @@ pub fn bind_borrowed_in(
     bind_borrowed_as(alloc, query, params, reading, &form)
 }
 
-/// The text of a query in a reading, with the literals of the values in any form: the body of
-/// [`bind_borrowed_in`], lent to the crate above. It refuses what that refuses.
+/// The body of [`bind_borrowed_in`], with the literals of the values in any form. It is refused for
+/// the same causes. For the crate above.
 pub fn bind_borrowed_as<F: LiteralForm>(
     alloc: Global,
     query: &[u8],
@@ -189,8 +194,8 @@ pub fn bind_borrowed_as<F: LiteralForm>(
     bind_surveyed_as(alloc, &surveyed, params, form)
 }
 
-// The text of a query with more names than are kept, and no marks. Its places are found once more
-// and kept, 24 bytes each, so that the walks for its names and for its text look for none.
+// The text of a query with no marks and more names than are kept. Its places are found once more
+// and kept, 24 bytes each. So the walks for its names and for its text don't search for them.
 fn bind_many_names<F: LiteralForm>(
     alloc: Global,
     surveyed: &SurveyedQuery<'_>,
@@ -211,8 +216,8 @@ fn bind_many_names<F: LiteralForm>(
     bind_surveyed_as(alloc, &surveyed, params, form)
 }
 
-/// The text of a query that is surveyed: the body of [`bind_text_in`] and of
-/// [`ParsedQuery::bind`], lent to the crates above. It refuses what these refuse.
+/// The text of a surveyed query: the body of [`bind_text_in`] and of [`ParsedQuery::bind`]. It is
+/// refused for the same causes. For the crates above.
 pub fn bind_surveyed(
     alloc: Global,
     surveyed: &SurveyedQuery<'_>,
@@ -237,8 +242,8 @@ pub fn bind_surveyed(
     bind_surveyed_as(alloc, surveyed, params, &form)
 }
 
-/// [`bind_surveyed`] with the literals of the values in any form, lent to the crates above. It
-/// refuses what that refuses.
+/// [`bind_surveyed`] with the literals of the values in any form. It is refused for the same
+/// causes. For the crates above.
 pub fn bind_surveyed_as<F: LiteralForm>(
     alloc: Global,
     surveyed: &SurveyedQuery<'_>,
@@ -257,10 +262,10 @@ pub fn bind_surveyed_as<F: LiteralForm>(
     Ok(written_text(alloc, surveyed, &measured, form)?)
 }
 
-/// What the text of a query that is surveyed is written from, and how long it will be: what
-/// [`bind_surveyed_as`] does before there is room for the text, lent to the crates above. It
-/// refuses what that refuses; out of memory also comes if the text would be longer than
-/// `isize::MAX` bytes.
+/// The values of a surveyed query, with the lengths of their literals and of the text. This is the
+/// part of [`bind_surveyed_as`] before the text is allocated. It is refused for the same causes.
+/// The error is also out of memory if the text would be longer than `isize::MAX` bytes. For the
+/// crates above.
 pub fn measured_text<'p, F: LiteralForm>(
     alloc: Global,
     surveyed: &SurveyedQuery<'_>,
@@ -282,8 +287,8 @@ pub fn measured_text<'p, F: LiteralForm>(
     measured_values(alloc, survey, values, form)
 }
 
-/// The same of values that are looked up, given to the places of a query with this survey. Lent to
-/// the crates above, which find the places of names once for all rows.
+/// [`measured_text`] with values that are already looked up, for a query with this survey. For the
+/// crates above, which find the places of names once for all rows.
 pub fn measured_values<'p, F: LiteralForm>(
     alloc: Global,
     survey: Survey,
@@ -309,7 +314,7 @@ pub fn measured_values<'p, F: LiteralForm>(
     Ok(with_lengths(alloc, survey.piece_bytes, values, form)?)
 }
 
-// The values, borrowed, that are given to the places of a query without both names and marks.
+// The borrowed values for the places of a query that has no names or no marks.
 fn values_of_places<'p>(
     alloc: Global,
     surveyed: &SurveyedQuery<'_>,
@@ -329,7 +334,7 @@ fn values_of_places<'p>(
     values_of_list(alloc, surveyed, params)
 }
 
-// The same by a list of the names, which tells a name without a value. The list is dropped before
+// The same by a list of the names, which reports a name without a value. The list is dropped before
 // the text is written.
 fn values_of_list<'p>(
     alloc: Global,
@@ -346,7 +351,8 @@ fn values_of_list<'p>(
     looked_up_values(alloc, params, names.as_slice())
 }
 
-// What is given to these names. Each is looked up, and the first that is missing is told.
+// The values that are given to these names. Each name is looked up, and the first without a value
+// is reported.
 fn looked_up_values<'p>(
     alloc: Global,
     params: BorrowedParams<'p, '_>,
@@ -385,7 +391,7 @@ fn later_error(survey: Survey, values: &[ValueRef<'_>]) -> Option<BindError>
     }
 }
 
-// Whether the marks of a query without names are not as many as the values.
+// Whether a query without names has another number of marks than of values.
 fn mark_count_differs(survey: Survey, values: usize) -> bool
     ensures { result ≡ mark_count_differs survey.names survey.marks values }
 {

@@ -1,4 +1,5 @@
-//! Laws of the definitions that the contracts cite, and of equality. No program needs to call them.
+//! Laws about the definitions that the contracts cite, and about equality. No program needs to call
+//! them.
 ghost use Rattle.std.specs.Prelude.{◌≡◌, ◌↔◌, ℕ, Bool, List, [], None, Some, IsTrue, length, map, slice_get};
 ghost use Rattle.mysql_values.specs.Content.{content_of};
 ghost use Rattle.mysql_sql_text.specs.InLine.{AreInLine};
@@ -28,8 +29,9 @@ use crate::bind_error::BindError;
 use crate::bind_pairs_error::BindPairsError;
 use crate::binding::{ParsedQuery, WideQuery};
 
-/// Whatever texts of the shape of literals stand in the places of a query, the tokens are the
-/// query's, with those of each text in place of its name or mark, and no place is left among them.
+/// If texts with the shape of literals replace the names and marks of a query, the tokens of the
+/// result are the query's, with those of each text in place of its name or mark. No place is left
+/// among them.
 pub fn isolation()
     ensures tokens { (mode : Bool) (query text : List ℕ) (ts : List Token)
         (literals : List (List ℕ)) (lists : List (List Token)) →
@@ -43,11 +45,12 @@ pub fn isolation()
         place_count (with_literal_tokens ts lists) ≡ 0 }
 {}
 
-/// A text that is bound to a portable query is portable, and on every honest server, whatever
-/// stands in the values, its tokens are the query's, with those of one literal in place of each
-/// name and mark: those that the grammar reads, except for `--` before a newline and for what
-/// stands in quiet comments (`read`), and if the server decides about a quiet comment by its own
-/// text, exactly those that it reads in the query (`tokens`).
+/// A text that is bound to a portable query is portable (`portable`). Every honest server reads it
+/// like the grammar, whatever its values contain: its tokens are the query's, with those of one
+/// literal in place of each name and mark. Only `--` before a newline and the content of quiet
+/// comments may differ (`read`). If the server decides about a quiet comment by the comment's own
+/// text, its tokens are exactly those that it reads in the query, with those of one literal in
+/// place of each name and mark (`tokens`).
 pub fn bound_texts_on_servers()
     ensures portable { (mode : Bool) (query text : List ℕ) (ts : List Token) (given : Given) →
         IsTokens mode query ts → (b : IsBoundText mode ts given text) → AreReadAlike ts →
@@ -65,14 +68,14 @@ pub fn bound_texts_on_servers()
         AreReadOn server mode b.literals b.literal_tokens }
 {}
 
-/// A client that keeps comments cuts a text that is bound to a portable query, without `/*!`, `/*+`
-/// and `/*/` in a block comment, into as many statements as the query has, whatever stands in the
-/// values (`count`). The text has none of the three in a block comment either (`no_opener`), and
-/// the client reads it as the grammar does, except for `--` before a newline and for what stands in
-/// quiet comments (`read`). If it decides about a quiet comment by the comment alone, it reads the
-/// tokens that it reads in the query, with those of one literal in place of each name and mark
-/// (`tokens`); its statements are then those of the query, with literals in their places
-/// (`statements`).
+/// A client that keeps comments cuts a text that is bound to a portable query into as many
+/// statements as the query has, whatever its values contain (`count`). The query must have no
+/// `/*!`, `/*+` or `/*/` in a block comment; then the text has none there either (`no_opener`). The
+/// client reads the text like the grammar. Only `--` before a newline and the content of quiet
+/// comments may differ (`read`). If the client decides about a quiet comment by the comment's own
+/// text, it reads the tokens that it reads in the query, with those of one literal in place of each
+/// name and mark (`tokens`). Its statements are then those of the query, with literals in their
+/// places (`statements`).
 pub fn bound_texts_in_clients()
     ensures no_opener { (mode : Bool) (text : List ℕ) (ts : List Token) (given : Given) →
         (b : IsBoundText mode ts given text) → HoldNoOpener ts →
@@ -96,10 +99,10 @@ pub fn bound_texts_in_clients()
         statements_with_literals (statements us) b.literal_tokens }
 {}
 
-/// A text that is bound to a query which is portable in a client is portable in it too, if no
-/// literal has a newline or a byte 0 (`portable`). With backslash escapes none has (`escaped`).
-/// Without them a string has those of its value, and a client may drop one: then the text has to be
-/// asked.
+/// If a query is portable in a client, a text that is bound to it is too, if no literal has a
+/// newline or a byte 0 (`portable`). With backslash escapes no literal has one (`escaped`). Without
+/// them, a string has those of its value, and a client may drop one. In this case the bound text
+/// itself has to be tested.
 pub fn bound_texts_are_sent()
     ensures portable { (mode : Bool) (query text : List ℕ) (ts : List Token) (given : Given) →
         IsTokens mode query ts → (b : IsBoundText mode ts given text) → AreInLine b.literals →
@@ -118,7 +121,7 @@ pub fn no_place_is_left()
         IsBoundText mode ts given text → IsTokens mode text us → place_count us ≡ 0 }
 {}
 
-/// Bound again with no parameters, a bound text is not refused and stays as it is.
+/// A bound text that is bound again with no parameters isn't refused and stays as it is.
 pub fn bound_again_is_the_same()
     ensures same { (mode : Bool) (ts us : List Token) (given : Given) (text : List ℕ) →
         IsBoundText mode ts given text → IsTokens mode text us → IsBoundText mode us empty text }
@@ -134,14 +137,14 @@ pub fn by_position_is_the_same()
         IsBoundText mode (with_marks ts) (positional bound.values) text }
 {}
 
-/// A query has one bound text for what is given to it.
+/// A query has exactly one bound text for the same parameters.
 pub fn one_bound_text()
     ensures same { (mode : Bool) (ts : List Token) (given : Given) (a b : List ℕ) →
         IsBoundText mode ts given a → IsBoundText mode ts given b → a ≡ b }
 {}
 
-/// A query without capitals behind a colon or a name is refused by wide names for the same cause
-/// as by the names of the grammar, and else gives the same text.
+/// If a query has no capitals after a colon or a name, wide names give the same text as the names
+/// of the grammar, or the same cause of refusal.
 pub fn wide_names_without_capitals()
     ensures cause { (ts : List Token) (given : Given) → HasNoCapitals ts →
         first_cause (widened ts) given ≡ first_cause ts given }
@@ -159,15 +162,16 @@ pub fn equal_texts_say_the_same()
         map content_of x.values ≡ map content_of y.values }
 {}
 
-/// The position that is found is that of the query's place with the number that is found.
+/// `first_not_alone` finds a number and a position; the position is that of the place with this
+/// number.
 pub fn position_of_first_not_alone()
     ensures position { (ts : List Token) (place position : ℕ) →
         first_not_alone ts ≡ Some (place, position) →
         slice_get (positions ts) place ≡ Some position }
 {}
 
-/// The place that is found is the first of the query's places that doesn't stand alone. If none is
-/// found, each of them stands alone.
+/// The place that `first_not_alone` finds is the first that doesn't stand alone. If it finds none,
+/// each place stands alone.
 pub fn first_not_alone_is_first()
     ensures found { (ts : List Token) (place position : ℕ) →
         first_not_alone ts ≡ Some (place, position) → IsFirstNotAlone ts place position }

@@ -1,9 +1,9 @@
-//! Binding: the literals of values in the places of a query's names and marks.
+//! Binding: writes the literals of values in place of a query's names and marks.
 //!
-//! [`bind_text_in`] is the call for a mode of the server, and [`bind_text`] the same for the mode
-//! in which a backslash escapes; a [`ParsedQuery`] is parsed once and bound many times.
-//! `specs/Isolation.antt` says what they promise of the text: each value stands in one literal, and
-//! nothing else of the query changes.
+//! [`bind_text_in`] binds in a mode of the server. [`bind_text`] binds in the mode in which a
+//! backslash escapes. A [`ParsedQuery`] is parsed once and bound many times. `specs/Isolation.antt`
+//! states the promises about the text: each value is in one literal, and nothing else of the query
+//! changes.
 #![tactic(auto)]
 
 mod bind_error;

@@ -8,16 +8,16 @@ ghost use Rattle.mysql_binding.specs.LiteralForm.{Literals, LiteralFacts, LackFl
 use mysql_values::laws::{borrowed_literal_shape, literal_shape};
 use mysql_values::value::{Value, ValueRef};
 
-/// A form in which [`bind_borrowed_as`](crate::bind_borrowed_as) writes the literals of values,
-/// lent to the crate above. Exactly floats have no literal.
+/// A form in which [`bind_borrowed_as`](crate::bind_borrowed_as) writes the literals of values.
+/// Exactly the floats have no literal. For the crate above.
 pub trait LiteralForm {
-    // what it writes for each value
+    // the literal that it writes for each value
     ghost literal: { Self → Literals };
 
-    // what is known of that
+    // the facts that are known of that literal
     ghost IsKnown: { Self → LiteralFacts };
 
-    /// How many bytes the literal of a value has. It allocates nothing.
+    /// The number of bytes of the literal of a value. It allocates nothing.
     fn len(&self, value: ValueRef<'_>) -> Option<u128>
         ensures { result ≡ option_map length (literal self.now (owned value.entry)) };
 
@@ -27,11 +27,11 @@ pub trait LiteralForm {
         ensures exact { literal self.now (owned value.entry) ≡ Some room.new }
         ensures known { IsKnown self.now (owned value.entry) room.new };
 
-    /// `len` of a value that isn't borrowed: to lend it takes longer.
+    /// [`len`](LiteralForm::len) of an owned value. Borrowing it first would take longer.
     fn value_len(&self, value: &Value) -> Option<u128>
         ensures { result ≡ option_map length (literal self.now value.now) };
 
-    /// `put` of a value that isn't borrowed.
+    /// [`put`](LiteralForm::put) of an owned value.
     fn put_value(&self, value: &Value, room: &mut [u8])
         requires { option_map length (literal self.now value.now) ≡ Some (length room.old) }
         ensures exact { literal self.now value.now ≡ Some room.new }

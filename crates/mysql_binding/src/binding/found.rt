@@ -1,5 +1,4 @@
-//! The places of a query, those that were found before and those that are found now, and the values
-//! of its names.
+//! Finds the places of a query that aren't known yet, and the values of its names.
 ghost use Rattle.std.specs.Prelude.{◌≡◌, ◌≢◌, ◌+◌, ◌<◌, ◌≤◌, None, IfOk, IfSome, OnErr, drop, length, Ok};
 ghost use Rattle.mysql_named_params.specs.FirstPlace.{IsFirstPlace};
 ghost use Rattle.mysql_named_params.specs.Places.{place_count, names};
@@ -18,8 +17,8 @@ use mysql_params_core::params::{BorrowedParams, NamedValues};
 use mysql_values::value::ValueRef;
 use std::alloc::{AllocError, Global};
 
-/// The first place of the rest of a query, before which stand `i` places: the one that is known, or
-/// else the one that is found now. It is lent to the crate above.
+/// The first place in `rest`, which is the rest of a query after its first `i` places. It is taken
+/// from `known`, or found now if it isn't there. For the crate above.
 pub fn place_after(
     known: &[FoundPlace],
     i: usize,
@@ -45,7 +44,7 @@ pub fn place_after(
     }
 }
 
-/// All places of a query. It is lent to the crate above.
+/// All places of a query. For the crate above.
 pub fn all_places(
     alloc: Global,
     surveyed: &SurveyedQuery<'_>,
@@ -68,8 +67,8 @@ pub fn all_places(
     Ok(places)
 }
 
-/// The values, borrowed, of the names of a query that has one at least, and no marks beside them,
-/// if each is found without memory. No list of the names is made.
+/// The borrowed values of a query's names, if each is found without memory. The query has at least
+/// one name and no marks. No list of the names is made.
 pub(super) fn found_values<'p>(
     alloc: Global,
     surveyed: &SurveyedQuery<'_>,
@@ -95,8 +94,8 @@ pub(super) fn found_values<'p>(
     }
 }
 
-// The same of a map. There is a loop for each kind of map: the kind is chosen once, and not for
-// each name.
+// The same for one kind of map. Each kind has a loop of its own, so the kind is chosen once and not
+// for each name.
 fn values_in<'p, M: NamedValues>(
     alloc: Global,
     surveyed: &SurveyedQuery<'_>,

@@ -1,4 +1,4 @@
-//! What a query that is parsed once keeps: its places, found in any reading.
+//! The part of a query that is kept after it is parsed once: its places, in any reading.
 ghost use Rattle.std.specs.Prelude.{◌≡◌, ◌≢◌, ◌↔◌, IfErr, IfOk, IsErrOf, OnErr, OnOk, alloc_error};
 ghost use Rattle.std.specs.Cow.{cow_slice_items};
 ghost use Rattle.mysql_named_params.specs.NamedParamsErrors.{mixed};
@@ -58,7 +58,7 @@ impl<'q> FoundQuery<'q> {
         })
     }
 
-    /// The same, with a copy of the query if it is borrowed.
+    /// The same, with an owned copy of the query if it is borrowed.
     pub(super) fn into_owned(self, alloc: Global) -> Result<FoundQuery<'static>, AllocError>
         ensures query { IfOk result (λ found.
             cow_slice_items found.query ≡ cow_slice_items self.entry.query) }
@@ -72,7 +72,7 @@ impl<'q> FoundQuery<'q> {
         })
     }
 
-    /// A copy, on the allocator that the places hold.
+    /// A copy, on the allocator of the places.
     pub(super) fn clone(&self) -> Result<FoundQuery<'q>, AllocError>
         ensures query { IfOk result (λ copy.
             cow_slice_items copy.query ≡ cow_slice_items self.now.query) }
@@ -108,7 +108,7 @@ impl<'q> FoundQuery<'q> {
         }
     }
 
-    /// The names without the colon, unless a mark stands beside them.
+    /// The names without the colon. If the query also has a mark, it is refused.
     pub(super) fn names(&self, alloc: Global) -> Result<Vec<&[u8]>, NamedParamsError>
         ensures ok { OnTokensIn self.now.reading (cow_slice_items self.now.query) (λ ts.
             IfOk result (λ list. referents list.items ≡ names ts)) }
@@ -123,7 +123,7 @@ impl<'q> FoundQuery<'q> {
         query_names(alloc, &self.surveyed()).map_err(NamedParamsError::Memory)
     }
 
-    /// The text of the query with borrowed parameters, to the end of another text.
+    /// Appends the text of the query with borrowed parameters to another text.
     pub(super) fn append(
         &self,
         alloc: Global,

@@ -1,5 +1,4 @@
-//! The literals of values, in any form, and the length of the text that has them, before a byte of
-//! it is written.
+//! The literals of values in any form, and the length of the text with them before it is written.
 ghost use Rattle.std.specs.Prelude.{◌≡◌, ◌+◌, ◌^◌, ◌<◌, IfOk, map, ◌++◌, ◌≤◌, false, None, Some, IfSome, OnErr, length, take};
 ghost use Rattle.std.specs.List.{All, sum};
 ghost use Rattle.mysql_values.specs.Value.{FieldsInRange};
@@ -25,10 +24,10 @@ pub struct MeasuredText<'p> {
     pub len: usize,
 }
 
-/// These values with the lengths of their literals, and the length of the text whose pieces have
-/// `piece_bytes` bytes.
+/// The values with the lengths of their literals and of the text. `piece_bytes` is the length of
+/// the pieces between the places.
 ///
-/// If the text would be longer than `isize::MAX`, out of memory is returned.
+/// If the text would be longer than `isize::MAX` bytes, the error is out of memory.
 pub(super) fn with_lengths<'p, F: LiteralForm>(
     alloc: Global,
     piece_bytes: usize,
@@ -48,8 +47,9 @@ pub(super) fn with_lengths<'p, F: LiteralForm>(
     Ok(MeasuredText { values, lens, len })
 }
 
-// The length of each value's literal, 0 for a float, and of the text that has them beside this many
-// other bytes. Out of memory also means that the text would be longer than `isize::MAX`.
+// The length of each value's literal, and of the text with these literals and `piece_bytes` other
+// bytes. A float has the length 0. The error is also out of memory if the text would be longer than
+// `isize::MAX` bytes.
 fn literal_lens<F: LiteralForm>(
     alloc: Global,
     piece_bytes: usize,
@@ -88,7 +88,7 @@ pub(super) fn first_float(values: &[ValueRef<'_>]) -> Option<usize>
     None
 }
 
-/// The length of the literal of a value, 0 for a float. It is lent to the crate above.
+/// The length of the literal of a value, 0 for a float. For the crate above.
 #[tactic(auto, using(crate::proofs::TextLengthLemmas::length_or_zero))]
 pub fn literal_len<F: LiteralForm>(value: ValueRef<'_>, form: &F) -> u128
     ensures len { result ≡ literal_len (F.literal form.now) (owned value.entry) }
@@ -98,8 +98,8 @@ pub fn literal_len<F: LiteralForm>(value: ValueRef<'_>, form: &F) -> u128
     form.len(value).unwrap_or(0)
 }
 
-/// Writes the literal of a value that is no float, and has this many bytes, into the text from this
-/// index on, and returns the index after it. What stands before it is kept.
+/// Writes the literal of a value into the text from the index `at` on, and returns the index after
+/// it. The value isn't a float, and its literal has `len` bytes. The bytes before `at` are kept.
 pub(super) fn append_literal<F: LiteralForm>(
     text: &mut [u8],
     at: usize,
@@ -123,9 +123,9 @@ pub(super) fn append_literal<F: LiteralForm>(
     end
 }
 
-/// Writes the literal of a value to the end of the text, and nothing for a float. If memory is
-/// refused, the text stays as it is. It is lent to the crates above: a text whose length isn't
-/// known before is written in one pass.
+/// Appends the literal of a value to the text; a float appends nothing. If memory is refused, the
+/// text is unchanged. For the crates above, to write a text in one pass if its length isn't known
+/// yet.
 pub fn push_literal<F: LiteralForm>(
     text: &mut Vec<u8>,
     value: &Value,
@@ -152,7 +152,7 @@ pub fn push_literal<F: LiteralForm>(
     Ok(())
 }
 
-// `append_literal` of a value that isn't borrowed.
+// `append_literal` of an owned value.
 fn append_owned_literal<F: LiteralForm>(
     text: &mut [u8],
     at: usize,
@@ -176,7 +176,7 @@ fn append_owned_literal<F: LiteralForm>(
     next
 }
 
-/// The index after this many bytes from an index on, if it is at most `isize::MAX`.
+/// The index `len` bytes after `at`, if it is at most `isize::MAX`.
 pub(super) fn end_after(at: usize, len: u128) -> Option<usize>
     ensures end { IfSome result (λ end. end ≡ at + len) }
     ensures fits { IfSome result (λ end. end < 2 ^ 63) }
@@ -189,8 +189,8 @@ pub(super) fn end_after(at: usize, len: u128) -> Option<usize>
     Some(end as usize)
 }
 
-/// Writes the literal of a value into the text from this index on, and nothing for a float, and
-/// returns the index after it. What stands before it is kept. It is lent to the crate above.
+/// Writes the literal of a value into the text from the index `at` on, and returns the index after
+/// it. For a float it writes nothing. The bytes before `at` are kept. For the crate above.
 pub fn put_literal<F: LiteralForm>(
     text: &mut [u8],
     at: usize,

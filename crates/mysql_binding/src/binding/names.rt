@@ -9,7 +9,7 @@ use crate::binding::found::place_after;
 use crate::binding::survey::SurveyedQuery;
 use std::alloc::{AllocError, Global};
 
-/// The names of a query without both names and marks: slices of the query. It is lent to the crates
+/// The names of a query that has no names or no marks, as slices of the query. For the crates
 /// above.
 pub fn query_names<'q>(
     alloc: Global,

@@ -1,4 +1,4 @@
-//! Queries bound from names and values that are borrowed.
+//! Binding with borrowed names and values.
 ghost use Rattle.std.specs.Prelude.{◌≡◌, ℕ, List, None, Ok, map, IfErr, IfOk, IfSome, IsErrOf, OnErr};
 ghost use Rattle.mysql_named_params.specs.Tokens.{OnTokens};
 ghost use Rattle.mysql_named_params.specs.Reading.{OnTokensIn};
@@ -26,12 +26,13 @@ use mysql_params_core::params::{BorrowedParams, NamedPairs};
 use mysql_values::value::ValueRef;
 use std::alloc::Global;
 
-/// [`bind_text_in`](crate::bind_text_in) of named parameters that are borrowed, in pairs: no name
-/// and no value is copied. Names are told apart and found by walks over the pairs, without memory;
-/// of more than 64 pairs a sorted map is made.
+/// [`bind_text_in`](crate::bind_text_in) with named parameters that are borrowed, in pairs. No name
+/// and no value is copied. Up to 64 pairs are compared and searched one by one, without memory. For
+/// more pairs a sorted map is made.
 ///
-/// A name that is given twice is refused first. Then what [`bind_text_in`](crate::bind_text_in)
-/// refuses is refused, in its order. Of more than 64 pairs out of memory may come before either.
+/// A name that is given twice is refused first. Then come the causes of
+/// [`bind_text_in`](crate::bind_text_in), in its order. For more than 64 pairs, out of memory can
+/// come before all of them.
 pub fn bind_pairs(
     alloc: Global,
     query: &[u8],
@@ -47,8 +48,8 @@ pub fn bind_pairs(
         OnTokens no_backslash_escape query.now (λ ts.
         IsSameByPosition no_backslash_escape ts given text.items))) }
 
-    // A query with a name and a mark is refused without allocating, if there are at most 64 pairs
-    // and no name stands twice.
+    // A query with both a name and a mark is refused without allocating, if there are at most 64
+    // pairs and no name is given twice.
     ensures mixed { IfFewPairs pairs.now (λ given. OnTokens no_backslash_escape query.now (λ ts.
         HasName ts × HasMark ts → IsErrOf result (BindPairsError.Bind BindError.Mixed))) }
 {
@@ -59,8 +60,8 @@ pub fn bind_pairs(
     bind_pairs_in(alloc, query, pairs, reading)
 }
 
-/// [`bind_text_in`](crate::bind_text_in) of borrowed values by position: no value is copied. It
-/// refuses what that refuses.
+/// [`bind_text_in`](crate::bind_text_in) with borrowed values by position. No value is copied. It
+/// is refused for the same causes.
 pub fn bind_values(
     alloc: Global,
     query: &[u8],
@@ -87,9 +88,9 @@ pub fn bind_values(
     bind_borrowed_in(alloc, query, BorrowedParams::Values(values), reading)
 }
 
-/// [`bind_pairs`] into a room: the text is written to its front, without a vector for it, or its
-/// length is told if the room is shorter. What [`bind_pairs`] refuses is refused first, and leaves
-/// the room as it was.
+/// [`bind_pairs`] into `room`: writes the text to its front, without allocating a vector for it. If
+/// `room` is too short, the length of the text is returned. All causes of [`bind_pairs`] are
+/// refused first. After a refusal `room` is unchanged.
 pub fn bind_pairs_into(
     alloc: Global,
     query: &[u8],
@@ -113,9 +114,9 @@ pub fn bind_pairs_into(
     bind_pairs_into_in(alloc, query, pairs, reading, room)
 }
 
-/// [`bind_values`] into a room: the text is written to its front, without a vector for it, or its
-/// length is told if the room is shorter. What [`bind_values`] refuses is refused first, and leaves
-/// the room as it was.
+/// [`bind_values`] into `room`: writes the text to its front, without allocating a vector for it.
+/// If `room` is too short, the length of the text is returned. All causes of [`bind_values`] are
+/// refused first. After a refusal `room` is unchanged.
 pub fn bind_values_into(
     alloc: Global,
     query: &[u8],
@@ -140,7 +141,7 @@ pub fn bind_values_into(
     bind_values_into_in(alloc, query, values, reading, room)
 }
 
-/// [`bind_pairs`] of a query in any reading, lent to the crates above.
+/// [`bind_pairs`] of a query in any reading. For the crates above.
 pub fn bind_pairs_in(
     alloc: Global,
     query: &[u8],
@@ -167,7 +168,7 @@ pub fn bind_pairs_in(
     Ok(bind_borrowed_in(alloc, query, params, reading)?)
 }
 
-/// [`bind_pairs_into`] of a query in any reading, lent to the crates above.
+/// [`bind_pairs_into`] of a query in any reading. For the crates above.
 pub fn bind_pairs_into_in(
     alloc: Global,
     query: &[u8],
@@ -197,7 +198,7 @@ pub fn bind_pairs_into_in(
     Ok(bind_surveyed_into(alloc, &surveyed, params, &form, room)?)
 }
 
-/// [`bind_values_into`] of a query in any reading, lent to the crates above.
+/// [`bind_values_into`] of a query in any reading. For the crates above.
 pub fn bind_values_into_in(
     alloc: Global,
     query: &[u8],
@@ -225,8 +226,8 @@ pub fn bind_values_into_in(
     bind_surveyed_into(alloc, &surveyed, params, &form, room)
 }
 
-/// Why the pairs make no parameters, or memory is refused for more than 64 of them; none if they
-/// make parameters.
+/// The cause for which the pairs make no parameters, or out of memory for more than 64 pairs.
+/// `None` if they make parameters.
 pub(super) fn pairs_refusal(alloc: Global, pairs: &NamedPairs<'_>) -> Option<BindPairsError>
     ensures none { result ≡ None →
         pairs_made (map seen_pair pairs.now.0.now) ≡ Ok (named (pair_map pairs.now.0.now)) }

@@ -32,10 +32,10 @@ use mysql_portable::portable::{Unportable, first_unportable};
 use std::alloc::{AllocError, Global};
 use std::marker::Model;
 
-/// A query whose places were found, to be bound many times.
+/// A query whose places are found once, to be bound many times.
 ///
-/// It is borrowed from the query, or owns it ([`into_owned`](ParsedQuery::into_owned)). Binding it
-/// changes nothing, so many threads can do so at once.
+/// It borrows the query or owns it ([`into_owned`](ParsedQuery::into_owned)). Binding changes
+/// nothing in it, so many threads can bind it at once.
 #[derive(Debug, Drop)]
 pub struct ParsedQuery<'q> {
     found: FoundQuery<'q>,
@@ -57,9 +57,9 @@ impl<'q> Model for ParsedQuery<'q> {
 }
 
 impl<'q> ParsedQuery<'q> {
-    /// Finds the names and marks of a query, in the mode that the flag names, as
-    /// [`bind_text_in`](crate::bind_text_in) does. It takes 24 bytes a name or mark, and asks for
-    /// no memory if there are none.
+    /// Finds the names and marks of a query in the mode `no_backslash_escape`, like
+    /// [`bind_text_in`](crate::bind_text_in). It allocates 24 bytes for each name or mark, and
+    /// nothing if there are none.
     pub fn parse_in(
         alloc: Global,
         query: &'q [u8],
@@ -93,9 +93,10 @@ impl<'q> ParsedQuery<'q> {
         ParsedQuery::parse_in(alloc, query, false)
     }
 
-    /// The same, with a copy of the query if it is borrowed. Only that copy asks for memory; if it
-    /// is refused, the parsed query is gone. A query that is owned is never refused: tests show it,
-    /// and no clause says it, since clauses don't see whether a query is owned.
+    /// The same, with an owned copy of the query if it is borrowed. Only this copy needs memory. If
+    /// the memory is refused, the parsed query is dropped. With an owned query the call is never
+    /// refused. Tests show this; no clause says it, since clauses can't tell whether a query is
+    /// owned.
     pub fn into_owned(self, alloc: Global) -> Result<ParsedQuery<'static>, AllocError>
         ensures { IfOk result (λ p. p ≡ self.entry) }
     {
@@ -103,8 +104,8 @@ impl<'q> ParsedQuery<'q> {
         Ok(ParsedQuery { found })
     }
 
-    /// A copy, on the allocator that the places hold. It is borrowed as before, or owns a copy of
-    /// the query.
+    /// A copy, on the allocator of the places. It borrows the query if this one does, or else owns
+    /// a copy of it.
     pub fn clone(&self) -> Result<ParsedQuery<'q>, AllocError>
         ensures { IfOk result (λ copy. copy ≡ self.now) }
     {
@@ -112,8 +113,8 @@ impl<'q> ParsedQuery<'q> {
         Ok(ParsedQuery { found })
     }
 
-    /// The query with the literal of a value in the place of each name and mark, exactly as
-    /// [`bind_text_in`](crate::bind_text_in) gives it in this mode. The query isn't walked again.
+    /// Binds parameters to the query, exactly like [`bind_text_in`](crate::bind_text_in) in this
+    /// mode. The query isn't walked again.
     pub fn bind(&self, alloc: Global, params: Params) -> Result<Vec<u8>, BindError>
         ensures bound { OnTokens self.now.mode self.now.query (λ ts. IfOk result (λ text.
             IsBoundText self.now.mode ts (given params) text.items)) }
@@ -144,10 +145,10 @@ impl<'q> ParsedQuery<'q> {
         self.found.reading.no_backslash_escape
     }
 
-    /// The names without the colon, in the order of the query, with repeats: slices of it. Beside
-    /// a mark they are refused as `Mixed`, as
-    /// [`ParsedNamedParams`](mysql_named_params::named_params::ParsedNamedParams) refuses them. The
-    /// query isn't walked again.
+    /// The names without the colon, as slices of the query, in its order and with repeats. If the
+    /// query has both names and marks, it is refused as `Mixed`, as in
+    /// [`ParsedNamedParams`](mysql_named_params::named_params::ParsedNamedParams). The query isn't
+    /// walked again.
     pub fn names(&self, alloc: Global) -> Result<Vec<&[u8]>, NamedParamsError>
         ensures ok { OnTokens self.now.mode self.now.query (λ ts. IfOk result (λ list.
             referents list.items ≡ names ts)) }
@@ -168,8 +169,8 @@ impl<'q> ParsedQuery<'q> {
         self.found.survey.marks
     }
 
-    /// The first construct for which the query isn't portable. This walks the query: the walk for
-    /// its places jumps over what has to be looked at here.
+    /// The first construct that makes the query not portable. It walks the query again, since the
+    /// walk that found the places skips the bytes that matter here.
     pub fn first_unportable(&self) -> Option<Unportable>
         ensures first { OnTokens self.now.mode self.now.query (λ ts.
             result ≡ first_unportable ts) }
@@ -179,8 +180,7 @@ impl<'q> ParsedQuery<'q> {
         first_unportable(self.query(), self.no_backslash_escape())
     }
 
-    /// The query with its survey and all of its places. It is lent to the crates above; no user
-    /// needs it.
+    /// The query with its survey and all of its places. For the crates above; no user needs it.
     pub fn surveyed(&self) -> SurveyedQuery<'_>
         ensures query { result.query.now ≡ self.now.query }
         ensures reading { result.reading ≡ grammar_reading self.now.mode }

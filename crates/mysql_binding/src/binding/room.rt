@@ -1,4 +1,4 @@
-//! Texts in a room that the caller lends.
+//! Texts that are written into a slice of the caller.
 ghost use Rattle.std.specs.Prelude.{◌≡◌, IfErr, IfOk, IsErrOf, OnErr};
 ghost use Rattle.mysql_named_params.specs.Places.{HasName, HasMark};
 ghost use Rattle.mysql_params_core.specs.Given.{Given};
@@ -19,24 +19,25 @@ use crate::binding::text::fill_measured;
 use mysql_params_core::params::BorrowedParams;
 use std::alloc::Global;
 
-/// What became of a text for a room.
+/// The outcome for a text that is written into a slice.
 #[derive(Clone, Copy, Debug, PartialEq, Eq)]
 pub enum TextInRoom {
-    /// The text stands in the first `len` bytes of the room. The rest of the room is unchanged.
+    /// The text is in the first `len` bytes of the slice. The rest of the slice is unchanged.
     Written {
         /// The length of the text.
         len: usize,
     },
-    /// The room is shorter than the text. No text was made, and the room is unchanged.
+    /// The slice is shorter than the text. No text was written, and the slice is unchanged.
     TooShort {
         /// The length of the text.
         len: usize,
     },
 }
 
-/// [`bind_surveyed_as`](crate::bind_surveyed_as) into a room, lent to the crates above: the text is
-/// written to its front, without a vector for it, or its length is told if the room is shorter.
-/// What that refuses is refused first, and leaves the room as it was.
+/// [`bind_surveyed_as`](crate::bind_surveyed_as) into `room`: writes the text to its front, without
+/// allocating a vector for it. If `room` is too short, the length of the text is returned. All
+/// causes of [`bind_surveyed_as`](crate::bind_surveyed_as) are refused first. After a refusal
+/// `room` is unchanged. For the crates above.
 pub fn bind_surveyed_into<F: LiteralForm>(
     alloc: Global,
     surveyed: &SurveyedQuery<'_>,
@@ -58,7 +59,7 @@ pub fn bind_surveyed_into<F: LiteralForm>(
     Ok(fill_front(surveyed, &measured, form, room))
 }
 
-// Writes the text of a query that is measured to the front of the room, if the room has its length.
+// Writes the text of a measured query to the front of `room`, if `room` is long enough.
 fn fill_front<F: LiteralForm>(
     surveyed: &SurveyedQuery<'_>,
     measured: &MeasuredText<'_>,

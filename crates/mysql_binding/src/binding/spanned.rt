@@ -6,15 +6,15 @@ ghost use Rattle.mysql_binding.specs.PlaceSpans.{AreSpansOf, FitIn, FitIn-prop, 
 use crate::binding::spans::PlaceSpan;
 use crate::binding::survey::Survey;
 
-/// A query, with a survey and with spans that are said to be those of its places, and that a query
-/// of these bytes can have. It is lent to the crate above; no user needs it.
+/// A query with a survey and spans that its caller claims are those of its places. A query of this
+/// length can have them. For the crate above; no user needs it.
 #[derive(Clone, Copy, Debug)]
 pub struct SpannedQuery<'q> {
     /// The query.
     pub query: &'q [u8],
     /// How many places it has, and the first that doesn't stand alone.
     pub survey: Survey,
-    /// Where its places stand.
+    /// The spans of its places.
     pub spans: &'q [PlaceSpan],
     pub ghost fit: { FitIn spans.now query.now } by { FitIn-prop spans.now query.now },
     pub ghost outside: { survey.piece_bytes ≡ outside_len spans.now query.now },
@@ -22,9 +22,10 @@ pub struct SpannedQuery<'q> {
 }
 
 impl<'q> SpannedQuery<'q> {
-    /// These as one value, if a query of these bytes can have them: each place has bytes, they
-    /// stand one after another within the query, and the survey has their number and the number of
-    /// the bytes outside of them. No byte of the query is looked at.
+    /// Makes one value of the query, the survey and the spans, if a query of this length can have
+    /// them. Each place must have at least one byte, and the places must follow one another within
+    /// the query. The survey must have the number of places and the number of bytes outside of
+    /// them. No byte of the query is read.
     pub fn try_new(
         query: &'q [u8],
         survey: Survey,
@@ -51,8 +52,8 @@ impl<'q> SpannedQuery<'q> {
         })
     }
 
-    /// The spans of the names, if no mark is among the places: the first, as many as the survey has
-    /// names.
+    /// The spans of the names: the first ones, as many as the survey has names. No mark may be
+    /// among the places.
     pub(crate) fn name_spans(&self) -> &'q [PlaceSpan]
         ensures spans { result.now ≡ take self.now.survey.names self.now.spans.now }
         ensures fit { FitIn result.now self.now.query.now }
@@ -61,8 +62,8 @@ impl<'q> SpannedQuery<'q> {
     }
 }
 
-// How many bytes of the text stand outside of the spans, if each has bytes and they stand one after
-// another within the text.
+// The number of bytes outside of the spans, if each span has at least one byte and the spans follow
+// one another within the text.
 fn outside_len(text: &[u8], spans: &[PlaceSpan]) -> Option<usize>
     ensures fit { IfSome result (λ len.
         FitIn spans.now text.now × (len ≡ outside_len spans.now text.now)) }

@@ -1,5 +1,5 @@
-//! Where the places of a query stand, as plain numbers that a caller keeps, and binding by them
-//! without a walk of the query.
+//! The places of a query as plain numbers that a caller keeps, and binding by these numbers without
+//! a walk of the query.
 ghost use Rattle.std.specs.Prelude.{◌≡◌, ◌+◌, ◌<◌, ◌≤◌, Ok, length, map, take, drop, IfErr, IfOk, IfSome, IsErrOf, OnErr, OnOk};
 ghost use Rattle.mysql_named_params.specs.Reading.{OnTokensIn};
 ghost use Rattle.mysql_named_params.specs.declared.places.Reading.{Reading};
@@ -33,13 +33,13 @@ use mysql_params_core::params::{BorrowedParams, NamedValues};
 use mysql_values::value::ValueRef;
 use std::alloc::{AllocError, Global};
 
-/// Where a place of a query stands.
+/// The span of a place of a query.
 #[derive(Clone, Copy, Debug, PartialEq, Eq)]
 #[repr(C)]
 pub struct PlaceSpan {
-    /// The number of bytes between it and the place before it, or the front of the query.
+    /// The number of bytes between it and the place before it, or the start of the query.
     pub before: usize,
-    /// The number of its bytes; those of a name include the colon.
+    /// The number of its bytes. Those of a name include the colon.
     pub len: usize,
 }
 
@@ -57,8 +57,8 @@ impl PlaceSpan {
     }
 }
 
-/// Writes where the places of a query stand over the whole of `room`, which has as many items. It
-/// is lent to the crate above. If memory is refused, the room is as before.
+/// Writes the spans of a query's places over the whole of `room`, which has one item for each
+/// place. If memory is refused, `room` is unchanged. For the crate above.
 pub fn place_spans(
     alloc: Global,
     surveyed: &SurveyedQuery<'_>,
@@ -74,7 +74,7 @@ pub fn place_spans(
     Ok(())
 }
 
-// Writes where these places stand over the whole of the room.
+// Writes the spans of these places over the whole of `room`.
 fn write_spans(places: &[FoundPlace], room: &mut [PlaceSpan])
     requires { length room.old ≡ length places.now }
     ensures { room.new ≡ map span_of places.now }
@@ -87,13 +87,13 @@ fn write_spans(places: &[FoundPlace], room: &mut [PlaceSpan])
     }
 }
 
-/// [`bind_surveyed_into`](crate::bind_surveyed_into) by the spans of a query's places, lent to the
-/// crate above: the text, or the refusal, of the query in the reading that has this survey and
-/// these spans. No byte of the query is looked at; only those outside of its places are copied.
+/// [`bind_surveyed_into`](crate::bind_surveyed_into) by the spans of a query's places: the text or
+/// the refusal of the query in the reading that has this survey and these spans. The query isn't
+/// walked again, and only its bytes outside of the places are copied. For the crate above.
 ///
-/// With a survey, or spans, that aren't the query's, any text or refusal may come, but nothing is
-/// written behind the text, and after a refusal the room is as before. A missing name, or values of
-/// the other kind, are told only for the names at these spans.
+/// If the survey or the spans aren't the query's, any text or refusal can come. But nothing is
+/// written after the text, and after a refusal `room` is unchanged. A missing name, or values of
+/// the other kind, is reported only for the names at these spans.
 pub fn bind_spans_into<F: LiteralForm>(
     alloc: Global,
     spanned: &SpannedQuery<'_>,
@@ -125,7 +125,7 @@ pub fn bind_spans_into<F: LiteralForm>(
     Ok(TextInRoom::Written { len })
 }
 
-// What the text is written from, and how long it will be.
+// The values and lengths that the text is written from.
 fn measured_spans<'p, F: LiteralForm>(
     alloc: Global,
     spanned: &SpannedQuery<'_>,
@@ -153,7 +153,7 @@ fn measured_spans<'p, F: LiteralForm>(
     measured_values(alloc, survey, values, form)
 }
 
-// The values, borrowed, that are given to the names of a query without both names and marks.
+// The borrowed values for the names of a query that has no names or no marks.
 fn values_at<'p>(
     alloc: Global,
     spanned: &SpannedQuery<'_>,
@@ -172,7 +172,7 @@ fn values_at<'p>(
     values_of_list(alloc, spanned, params)
 }
 
-// The same of a query with names, if each value is found without memory. No list of the names is
+// The same for a query with names, if each value is found without memory. No list of the names is
 // made.
 fn found_at<'p>(
     alloc: Global,
@@ -198,8 +198,8 @@ fn found_at<'p>(
     }
 }
 
-// The same of a map. There is a loop for each kind of map: the kind is chosen once, and not for
-// each name.
+// The same for one kind of map. Each kind has a loop of its own, so the kind is chosen once and not
+// for each name.
 fn values_in_at<'p, M: NamedValues>(
     alloc: Global,
     spanned: &SpannedQuery<'_>,
@@ -224,7 +224,7 @@ fn values_in_at<'p, M: NamedValues>(
     Ok(Some(values))
 }
 
-// The same by a list of the names, which tells a name without a value.
+// The same by a list of the names, which reports a name without a value.
 fn values_of_list<'p>(
     alloc: Global,
     spanned: &SpannedQuery<'_>,
@@ -239,7 +239,7 @@ fn values_of_list<'p>(
     looked_up_values(alloc, params, names.as_slice())
 }
 
-// What stands at the first places, as many as there are names, without its first byte: slices of
+// The bytes of the first places, as many as there are names, each without its first byte: slices of
 // the query.
 fn span_names<'q>(alloc: Global, spanned: &SpannedQuery<'q>) -> Result<Vec<&'q [u8]>, AllocError>
     ensures { IfOk result (λ list. referents list.items ≡ spanned_names spanned.now) }
@@ -255,7 +255,7 @@ fn span_names<'q>(alloc: Global, spanned: &SpannedQuery<'q>) -> Result<Vec<&'q [
     Ok(list)
 }
 
-// Fills the room with the text of a query that is measured, whose places stand there.
+// Fills `room` with the text of a measured query whose places have these spans.
 fn fill_spans<F: LiteralForm>(
     spanned: &SpannedQuery<'_>,
     measured: &MeasuredText<'_>,

@@ -1,5 +1,5 @@
-//! What is known of a query and its places before values are looked up, found in one walk that
-//! allocates nothing; and the bytes that may stand beside a place.
+//! The facts about a query's places that are known before values are looked up, found in one walk
+//! that allocates nothing. Also the bytes that may be directly beside a place.
 ghost use Rattle.std.specs.Prelude.{◌≡◌, ◌+◌, ◌≤◌, length, take, None, Some, drop, if◌then◌else◌};
 ghost use Rattle.mysql_named_params.specs.Reading.{OnTokensIn};
 ghost use Rattle.mysql_binding.specs.FoundPlaces.{AreFirstPlaces, found_places};
@@ -8,15 +8,15 @@ ghost use Rattle.mysql_binding.specs.StandsAlone.{stands_alone, may_stand_before
 
 use mysql_named_params::places::{FoundPlace, PlaceKind, Reading, first_place_in};
 
-/// A query, how it is read, and what one walk found out of its places. It is lent to the crates
-/// above; no user needs it.
+/// A query, its reading, and the facts that one walk found about its places. For the crates above;
+/// no user needs it.
 #[derive(Clone, Copy, Debug)]
 pub struct SurveyedQuery<'q> {
     /// The query.
     pub query: &'q [u8],
-    /// How the query is read.
+    /// The reading of the query.
     pub reading: Reading,
-    /// How many places it has, and the first that doesn't stand alone.
+    /// The number of its places, and the first that doesn't stand alone.
     pub survey: Survey,
     /// Its first places, as many as were kept.
     pub known: &'q [FoundPlace],
@@ -26,7 +26,7 @@ pub struct SurveyedQuery<'q> {
 }
 
 impl<'q> SurveyedQuery<'q> {
-    /// Surveys a query in a reading, and keeps as many of its first places as there is room for.
+    /// Surveys a query in a reading, and keeps as many of its first places as `room` has items.
     pub fn new(query: &'q [u8], reading: Reading, room: &'q mut [FoundPlace]) -> SurveyedQuery<'q>
         ensures query { result.query.now ≡ query.now }
         ensures reading { result.reading ≡ reading }
@@ -42,7 +42,7 @@ impl<'q> SurveyedQuery<'q> {
         }
     }
 
-    /// What the walk found out of its places.
+    /// The facts that the walk found about its places.
     pub fn survey(&self) -> Survey
         ensures same { result ≡ self.now.survey }
         ensures survey { OnTokensIn self.now.reading self.now.query.now (IsSurvey result) }
@@ -66,20 +66,20 @@ impl<'q> SurveyedQuery<'q> {
     }
 }
 
-/// The places of a query, counted and tested.
+/// The number of a query's places, and the first that doesn't stand alone.
 #[derive(Debug, Clone, Copy)]
 pub struct Survey {
     /// The number of names, with repeats.
     pub names: usize,
     /// The number of marks.
     pub marks: usize,
-    /// Number and position of the first place that doesn't stand alone.
+    /// Number and position of the first place that doesn't stand alone, both from 0.
     pub not_alone: Option<(usize, usize)>,
-    /// The length of all pieces between the places together.
+    /// The total length of the pieces between the places.
     pub piece_bytes: usize,
 }
 
-/// The survey of a query, and how many of its first places were kept: as many as there is room for.
+/// The survey of a query, and the number of its first places that were kept in `first`.
 pub fn place_survey(query: &[u8], first: &mut [FoundPlace], reading: Reading) -> (Survey, usize)
     ensures survey { OnTokensIn reading query.now (IsSurvey result.0) }
     ensures in_query { result.0.names + result.0.marks ≤ length query.now }
@@ -118,7 +118,7 @@ pub fn place_survey(query: &[u8], first: &mut [FoundPlace], reading: Reading) ->
     (survey, kept)
 }
 
-// Number and position of the place from `start` to `end`, unless it stands alone.
+// Number and position of the place from `start` to `end`, or `None` if it stands alone.
 fn not_alone_at(query: &[u8], place: usize, start: usize, end: usize) -> Option<(usize, usize)>
     requires { (start ≤ length query.now) × (end ≤ length query.now) }
     ensures { result ≡ (if stands_alone (take start query.now) (drop end query.now)
@@ -169,7 +169,7 @@ static MAY_STAND_AFTER: [u8; 256] = *b"\
     00000000000000000000000000000000\
     00000000000000000000000000000000";
 
-// Whether a place may stand after this text.
+// Whether a place may come after this text.
 fn allows_place_after(before: &[u8]) -> bool
     ensures { result ≡ none_or_last may_stand_before before.now }
 {
@@ -179,7 +179,7 @@ fn allows_place_after(before: &[u8]) -> bool
     }
 }
 
-// Whether a place may stand before this text.
+// Whether a place may come before this text.
 fn allows_place_before(after: &[u8]) -> bool
     ensures { result ≡ none_or_first may_stand_after after.now }
 {

@@ -1,4 +1,5 @@
-//! The text of a query with the literals of values in its places: a slice of exactly its length.
+//! Writes the text of a query with the literals of values in its places, in a slice of its exact
+//! length.
 ghost use Rattle.std.specs.Prelude.{◌≡◌, ◌+◌, ◌++◌, ◌≤◌, ℕ, List, None, IfErr, IfOk, OnOk, OnErr, length, map, take};
 ghost use Rattle.std.specs.List.{sum};
 ghost use Rattle.mysql_named_params.specs.Places.{place_count};
@@ -22,7 +23,7 @@ use crate::binding::survey::SurveyedQuery;
 use mysql_values::value::ValueRef;
 use std::alloc::{AllocError, Global};
 
-/// The text of a query that is measured, in a vector of exactly its length.
+/// The text of a measured query, in a vector of exactly its length.
 pub(super) fn written_text<F: LiteralForm>(
     alloc: Global,
     surveyed: &SurveyedQuery<'_>,
@@ -41,8 +42,8 @@ pub(super) fn written_text<F: LiteralForm>(
     Ok(text)
 }
 
-/// Writes the text of a query that is measured over the whole of `room`, which has its length. It
-/// is lent to the crates above. Nothing is allocated, and nothing refuses.
+/// Writes the text of a measured query over the whole of `room`, which has its length. It allocates
+/// nothing and is never refused. For the crates above.
 pub fn fill_measured<F: LiteralForm>(
     surveyed: &SurveyedQuery<'_>,
     measured: &MeasuredText<'_>,
@@ -66,8 +67,7 @@ pub fn fill_measured<F: LiteralForm>(
     );
 }
 
-/// Writes the text of a query that is measured to the end of another text, which needs no vector of
-/// its own then.
+/// Appends the text of a measured query to another text, so no vector is allocated for it.
 pub(super) fn append_measured<F: LiteralForm>(
     surveyed: &SurveyedQuery<'_>,
     measured: &MeasuredText<'_>,
@@ -92,11 +92,12 @@ pub(super) fn append_measured<F: LiteralForm>(
     Ok(())
 }
 
-/// Writes the text of a query that is surveyed with these values, which are looked up, to the end
-/// of another text, in any form of literals. It refuses what
-/// [`bind_surveyed_as`](crate::bind_surveyed_as) refuses once the values are looked up, and then
-/// the text stays as it is. It is lent to the crates above: of many texts of one query none needs a
-/// map of values.
+/// Appends the text of a surveyed query to another text, in any form of literals. `values` are
+/// those that were looked up for its places.
+///
+/// It is refused for the causes of [`bind_surveyed_as`](crate::bind_surveyed_as) that come after
+/// the lookup. After a refusal `text` is unchanged. For the crates above, which write many texts of
+/// one query without a map of values.
 pub fn append_surveyed<F: LiteralForm>(
     alloc: Global,
     surveyed: &SurveyedQuery<'_>,
@@ -118,8 +119,8 @@ pub fn append_surveyed<F: LiteralForm>(
     Ok(append_measured(surveyed, &measured, form, text)?)
 }
 
-// Writes the text of a query that is measured into another from this index on, and returns the
-// index after it. What stands before it is kept.
+// Writes the text of a measured query into another text from the index `at` on, and returns the
+// index after it. The bytes before `at` are kept.
 fn fill_after<F: LiteralForm>(
     surveyed: &SurveyedQuery<'_>,
     measured: &MeasuredText<'_>,
@@ -143,8 +144,8 @@ fn fill_after<F: LiteralForm>(
     end
 }
 
-// Fills the text with the pieces of the query and, between them, the literals of the values, which
-// have these lengths.
+// Fills `text` with the pieces of the query and, between them, the literals of the values. The
+// literals have the lengths `lens`.
 fn fill_text<F: LiteralForm>(
     surveyed: &SurveyedQuery<'_>,
     values: &[ValueRef<'_>],
@@ -176,8 +177,8 @@ fn fill_text<F: LiteralForm>(
     append_piece(text, at, rest);
 }
 
-/// Copies the piece into the text from this index on, and returns the index after it. What stands
-/// before it is kept. It is lent to the crate above.
+/// Copies the piece into the text from the index `at` on, and returns the index after it. The bytes
+/// before `at` are kept. For the crate above.
 pub fn append_piece(text: &mut [u8], at: usize, piece: &[u8]) -> usize
     requires { at + length piece.now ≤ length text.old }
     ensures next { result ≡ at + length piece.now }

@@ -1,4 +1,4 @@
-//! Queries bound by wide names, which may have capitals.
+//! Binding with wide names, which can have capital letters.
 ghost use Rattle.std.specs.Prelude.{◌≡◌, IfErr, IfOk, IsErrOf, OnErr};
 ghost use Rattle.mysql_sql_text.specs.StringUnits.{with_backslashes};
 ghost use Rattle.mysql_named_params.specs.Reading.{OnWideTokens};
@@ -22,14 +22,14 @@ use mysql_params_core::params::{BorrowedParams, Params};
 use mysql_values::value::ValueRef;
 use std::alloc::Global;
 
-/// [`bind_text_in`](crate::bind_text_in) by wide names: a `:`, a letter or `_`, and all letters,
-/// digits and `_` that follow, so `:userId` and `:ID` are names too. Names are told apart by case.
-/// Each `:` before a letter or `_` outside of strings, quoted names and comments begins one,
-/// whatever stands before it.
+/// [`bind_text_in`](crate::bind_text_in) with wide names, such as `:userId` and `:ID`. A wide name
+/// is a `:`, a letter or `_`, and all letters, digits and `_` that follow. Names are
+/// case-sensitive. Each `:` before a letter or `_` outside of strings, quoted names and comments
+/// begins a wide name, whatever comes before it.
 ///
-/// A query is refused for the same causes in the same order, over these names. So `x::Text` and
+/// A query is refused for the same causes in the same order, with these names. So `x::Text` and
 /// `lbl:LOOP` are refused as places that don't stand alone; [`bind_text_in`](crate::bind_text_in)
-/// leaves both as they are. A query whose names have no capitals gives what it gives there.
+/// leaves both as they are. A query whose names have no capitals gives the same text as there.
 pub fn bind_wide_in(
     alloc: Global,
     query: &[u8],
@@ -55,8 +55,8 @@ pub fn bind_wide_in(
     bind_borrowed_in(alloc, query, params.borrowed(), reading)
 }
 
-/// [`bind_wide_in`] in the mode in which a backslash escapes: with `false`. See there for what
-/// refuses it.
+/// [`bind_wide_in`] in the mode in which a backslash escapes: with `false`. It is refused for the
+/// same causes.
 pub fn bind_wide(alloc: Global, query: &[u8], params: Params) -> Result<Vec<u8>, BindError>
     ensures bound { OnWideTokens with_backslashes query.now (λ ts. IfOk result (λ text.
         IsBoundText with_backslashes ts (given params) text.items)) }
@@ -73,7 +73,7 @@ pub fn bind_wide(alloc: Global, query: &[u8], params: Params) -> Result<Vec<u8>,
     bind_wide_in(alloc, query, params, false)
 }
 
-/// [`bind_pairs`](crate::bind_pairs) by wide names, as [`bind_wide_in`] reads them.
+/// [`bind_pairs`](crate::bind_pairs) with wide names, like [`bind_wide_in`].
 pub fn bind_wide_pairs(
     alloc: Global,
     query: &[u8],
@@ -89,8 +89,8 @@ pub fn bind_wide_pairs(
         OnWideTokens no_backslash_escape query.now (λ ts.
         IsSameByPosition no_backslash_escape ts given text.items))) }
 
-    // A query with a name and a mark is refused without allocating, if there are at most 64 pairs
-    // and no name stands twice.
+    // A query with both a name and a mark is refused without allocating, if there are at most 64
+    // pairs and no name is given twice.
     ensures mixed { IfFewPairs pairs.now (λ given. OnWideTokens no_backslash_escape query.now (λ ts.
         HasName ts × HasMark ts → IsErrOf result (BindPairsError.Bind BindError.Mixed))) }
 {
@@ -101,8 +101,8 @@ pub fn bind_wide_pairs(
     bind_pairs_in(alloc, query, pairs, reading)
 }
 
-/// [`bind_values`](crate::bind_values) of a query with wide names, as [`bind_wide_in`] reads them.
-/// Beside one, values by position are refused.
+/// [`bind_values`](crate::bind_values) for a query that is read as in [`bind_wide_in`]. If the
+/// query has a wide name, values by position are refused.
 pub fn bind_wide_values(
     alloc: Global,
     query: &[u8],
@@ -129,7 +129,7 @@ pub fn bind_wide_values(
     bind_borrowed_in(alloc, query, BorrowedParams::Values(values), reading)
 }
 
-/// [`bind_pairs_into`](crate::bind_pairs_into) by wide names, as [`bind_wide_in`] reads them.
+/// [`bind_pairs_into`](crate::bind_pairs_into) with wide names, like [`bind_wide_in`].
 pub fn bind_wide_pairs_into(
     alloc: Global,
     query: &[u8],
@@ -153,8 +153,7 @@ pub fn bind_wide_pairs_into(
     bind_pairs_into_in(alloc, query, pairs, reading, room)
 }
 
-/// [`bind_values_into`](crate::bind_values_into) of a query with wide names, as [`bind_wide_in`]
-/// reads them.
+/// [`bind_values_into`](crate::bind_values_into) for a query that is read as in [`bind_wide_in`].
 pub fn bind_wide_values_into(
     alloc: Global,
     query: &[u8],

@@ -28,11 +28,11 @@ use mysql_params_core::params::Params;
 use std::alloc::{AllocError, Global};
 use std::marker::Model;
 
-/// A query whose places were found, wide names among them, to be bound many times: a
-/// [`ParsedQuery`](crate::ParsedQuery) as [`bind_wide_in`](crate::bind_wide_in) reads it.
+/// A query whose places, with wide names, are found once, to be bound many times: a
+/// [`ParsedQuery`](crate::ParsedQuery) that is read as in [`bind_wide_in`](crate::bind_wide_in).
 ///
-/// It is borrowed from the query, or owns it ([`into_owned`](WideQuery::into_owned)). Binding it
-/// changes nothing, so many threads can do so at once.
+/// It borrows the query or owns it ([`into_owned`](WideQuery::into_owned)). Binding changes nothing
+/// in it, so many threads can bind it at once.
 #[derive(Debug, Drop)]
 pub struct WideQuery<'q> {
     found: FoundQuery<'q>,
@@ -54,9 +54,9 @@ impl<'q> Model for WideQuery<'q> {
 }
 
 impl<'q> WideQuery<'q> {
-    /// Finds the names and marks of a query, in the mode that the flag names, as
-    /// [`bind_wide_in`](crate::bind_wide_in) does. It takes 24 bytes a name or mark, and asks for
-    /// no memory if there are none.
+    /// Finds the names and marks of a query in the mode `no_backslash_escape`, like
+    /// [`bind_wide_in`](crate::bind_wide_in). It allocates 24 bytes for each name or mark, and
+    /// nothing if there are none.
     pub fn parse_in(
         alloc: Global,
         query: &'q [u8],
@@ -90,9 +90,10 @@ impl<'q> WideQuery<'q> {
         WideQuery::parse_in(alloc, query, false)
     }
 
-    /// The same, with a copy of the query if it is borrowed. Only that copy asks for memory; if it
-    /// is refused, the parsed query is gone. A query that is owned is never refused: tests show it,
-    /// and no clause says it, since clauses don't see whether a query is owned.
+    /// The same, with an owned copy of the query if it is borrowed. Only this copy needs memory. If
+    /// the memory is refused, the parsed query is dropped. With an owned query the call is never
+    /// refused. Tests show this; no clause says it, since clauses can't tell whether a query is
+    /// owned.
     pub fn into_owned(self, alloc: Global) -> Result<WideQuery<'static>, AllocError>
         ensures { IfOk result (λ p. p ≡ self.entry) }
     {
@@ -100,8 +101,8 @@ impl<'q> WideQuery<'q> {
         Ok(WideQuery { found })
     }
 
-    /// A copy, on the allocator that the places hold. It is borrowed as before, or owns a copy of
-    /// the query.
+    /// A copy, on the allocator of the places. It borrows the query if this one does, or else owns
+    /// a copy of it.
     pub fn clone(&self) -> Result<WideQuery<'q>, AllocError>
         ensures { IfOk result (λ copy. copy ≡ self.now) }
     {
@@ -109,8 +110,8 @@ impl<'q> WideQuery<'q> {
         Ok(WideQuery { found })
     }
 
-    /// The query with the literal of a value in the place of each name and mark, exactly as
-    /// [`bind_wide_in`](crate::bind_wide_in) gives it in this mode. The query isn't walked again.
+    /// Binds parameters to the query, exactly like [`bind_wide_in`](crate::bind_wide_in) in this
+    /// mode. The query isn't walked again.
     pub fn bind(&self, alloc: Global, params: Params) -> Result<Vec<u8>, BindError>
         ensures bound { OnWideTokens self.now.mode self.now.query (λ ts. IfOk result (λ text.
             IsBoundText self.now.mode ts (given params) text.items)) }
@@ -141,8 +142,8 @@ impl<'q> WideQuery<'q> {
         self.found.reading.no_backslash_escape
     }
 
-    /// The names without the colon, in the order of the query, with repeats: slices of it. Beside
-    /// a mark they are refused as `Mixed`. The query isn't walked again.
+    /// The names without the colon, as slices of the query, in its order and with repeats. If the
+    /// query has both names and marks, it is refused as `Mixed`. The query isn't walked again.
     pub fn names(&self, alloc: Global) -> Result<Vec<&[u8]>, NamedParamsError>
         ensures ok { OnWideTokens self.now.mode self.now.query (λ ts. IfOk result (λ list.
             referents list.items ≡ names ts)) }
@@ -163,8 +164,7 @@ impl<'q> WideQuery<'q> {
         self.found.survey.marks
     }
 
-    /// The query with its survey and all of its places. It is lent to the crates above; no user
-    /// needs it.
+    /// The query with its survey and all of its places. For the crates above; no user needs it.
     pub fn surveyed(&self) -> SurveyedQuery<'_>
         ensures query { result.query.now ≡ self.now.query }
         ensures reading { result.reading ≡ wide_reading self.now.mode }

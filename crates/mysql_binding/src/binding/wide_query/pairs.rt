@@ -1,4 +1,4 @@
-//! Queries with wide names that are parsed once, bound from names and values that are borrowed.
+//! Binding a parsed query with wide names, by borrowed names and values.
 ghost use Rattle.std.specs.Prelude.{◌≡◌, IfErr, IfOk, IsErrOf, OnErr, OnOk};
 ghost use Rattle.mysql_named_params.specs.Reading.{OnWideTokens, wide_reading};
 ghost use Rattle.mysql_named_params.specs.Places.{HasMark, HasName};
@@ -20,9 +20,8 @@ use mysql_values::value::ValueRef;
 use std::alloc::Global;
 
 impl<'q> WideQuery<'q> {
-    /// [`bind`](WideQuery::bind) of named parameters that are borrowed, in pairs, exactly as
-    /// [`bind_wide_pairs`](crate::bind_wide_pairs) binds them to the query in this mode. The query
-    /// isn't walked again.
+    /// [`bind`](WideQuery::bind) with named parameters that are borrowed, in pairs, exactly like
+    /// [`bind_wide_pairs`](crate::bind_wide_pairs) in this mode. The query isn't walked again.
     pub fn bind_pairs(
         &self,
         alloc: Global,
@@ -38,8 +37,8 @@ impl<'q> WideQuery<'q> {
             OnWideTokens self.now.mode self.now.query (λ ts.
             IsSameByPosition self.now.mode ts given text.items))) }
 
-        // A query with a name and a mark is refused without allocating, if there are at most 64
-        // pairs and no name stands twice.
+        // A query with both a name and a mark is refused without allocating, if there are at most
+        // 64 pairs and no name is given twice.
         ensures mixed { IfFewPairs pairs.now (λ given.
             OnWideTokens self.now.mode self.now.query (λ ts.
             HasName ts × HasMark ts → IsErrOf result (BindPairsError.Bind BindError.Mixed))) }
@@ -51,9 +50,8 @@ impl<'q> WideQuery<'q> {
         Ok(bind_surveyed(alloc, &self.surveyed(), BorrowedParams::Pairs(&named))?)
     }
 
-    /// [`bind`](WideQuery::bind) of borrowed values by position, exactly as
-    /// [`bind_wide_values`](crate::bind_wide_values) binds them to the query in this mode. The
-    /// query isn't walked again.
+    /// [`bind`](WideQuery::bind) with borrowed values by position, exactly like
+    /// [`bind_wide_values`](crate::bind_wide_values) in this mode. The query isn't walked again.
     pub fn bind_values(&self, alloc: Global, values: &[ValueRef<'_>]) -> Result<Vec<u8>, BindError>
         ensures bound { OnWideTokens self.now.mode self.now.query (λ ts. IfOk result (λ text.
             IsBoundText self.now.mode ts (positional (owned_values values.now)) text.items)) }
@@ -71,8 +69,8 @@ impl<'q> WideQuery<'q> {
         bind_surveyed(alloc, &self.surveyed(), BorrowedParams::Values(values))
     }
 
-    /// [`bind_pairs`](WideQuery::bind_pairs) to the end of another text. The bound text takes no
-    /// vector of its own. If it is refused, the other text stays as it is.
+    /// [`bind_pairs`](WideQuery::bind_pairs), with the bound text appended to `text`. No vector is
+    /// allocated for it. After a refusal `text` is unchanged.
     pub fn append_pairs(
         &self,
         alloc: Global,
@@ -97,8 +95,8 @@ impl<'q> WideQuery<'q> {
         Ok(self.found.append(alloc, params, text)?)
     }
 
-    /// [`bind_values`](WideQuery::bind_values) to the end of another text. The bound text takes
-    /// no vector of its own. If it is refused, the other text stays as it is.
+    /// [`bind_values`](WideQuery::bind_values), with the bound text appended to `text`. No vector
+    /// is allocated for it. After a refusal `text` is unchanged.
     pub fn append_values(
         &self,
         alloc: Global,
