@@ -1,5 +1,5 @@
--- The bytes and classes of bytes that the grammar of queries names, and the first place of a word.
--- Signs and white space have names here; letters and digits are written `byte "e"`.
+-- The bytes and classes of bytes that the grammar of queries names, and the first occurrence of a
+-- word. Signs and white space have names here. Letters and digits are written `byte "e"`.
 use Rattle.std.specs.Prelude.{◌≡◌, ◌≢◌, ℕ, Bool, false, ◌==◌, ◌&&◌, ◌||◌, nat_le, List, [], ◌∷◌, ◌++◌}
 use Rattle.std.specs.Char.{is_ascii_digit}
 use Rattle.std.specs.Str.{byte}
@@ -84,7 +84,7 @@ underscore = 95
 abbrev pub backquote : ℕ
 backquote = 96
 
--- white space, as Rust's `u8::is_ascii_whitespace` has it
+-- white space, like Rust's `u8::is_ascii_whitespace`
 abbrev pub is_white_space : ℕ → Bool
 is_white_space b = b == tab || b == newline || b == form_feed || b == carriage_return || b == space
 
@@ -104,24 +104,24 @@ is_name_byte b = is_start_byte b || is_ascii_digit b
 abbrev pub is_string_quote : ℕ → Bool
 is_string_quote b = b == single_quote || b == double_quote
 
--- a byte after `/*` that makes it no comment: what follows is executed, or a hint
+-- a byte after `/*` with which it opens no comment: the text after it is executed, or a hint
 abbrev pub is_extension : ℕ → Bool
 is_extension b = b == exclamation_mark || b == plus
 
--- the text has a first byte, and it passes the test
+-- the text has a first byte, and this byte passes the test
 abbrev pub begins : (ℕ → Bool) → List ℕ → Bool
 begins test [] = false
 begins test (b ∷ bs) = test b
 
--- the word stands nowhere in the bytes
+-- the word doesn't occur in the bytes
 abbrev pub Lacks : List ℕ → List ℕ → Type 0
 Lacks word bytes = (front back : List ℕ) → front ++ (word ++ back) ≢ bytes
 
--- the word stands only at the very end of the bytes, if at all
+-- the word occurs only at the very end of the bytes, if at all
 abbrev pub HoldsOnlyAtEnd : List ℕ → List ℕ → Type 0
 HoldsOnlyAtEnd word bytes = (front back : List ℕ) → front ++ (word ++ back) ≡ bytes → back ≡ []
 
--- the bytes go up to and with the first place of the word, or to the end if it has none
+-- the bytes go up to the first occurrence of the word, with it, or to the end if there is none
 pub data IsUpTo (word bytes rest : List ℕ) : Type 0 where
   up_to_word : (body : List ℕ) →
       body ++ word ≡ bytes → HoldsOnlyAtEnd word bytes → IsUpTo word bytes rest

@@ -1,5 +1,6 @@
--- A query with its names in lower case. Wide names become names of the grammar by it, at the same
--- positions: for what is asked of a query before it is bound, as whether it is portable.
+-- A query with its names in lower case. Wide names become names of the grammar, at the same
+-- positions. This is for questions about a query before it is bound, such as whether it is
+-- portable.
 use Rattle.std.specs.Prelude.{ℕ, Bool, List, [], ◌∷◌, map}
 use Rattle.std.specs.Char.{to_ascii_lowercase}
 use Rattle.std.specs.List.{list_any}

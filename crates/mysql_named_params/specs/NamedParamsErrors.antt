@@ -1,6 +1,6 @@
 -- The errors of `ParsedNamedParams::parse`.
 use Rattle.mysql_named_params.specs.declared.named_params.MixedParamsError.{MixedParamsError}
 
--- the one value of its type
+-- the only value of its type
 abbrev pub mixed : MixedParamsError
 mixed = record {}

@@ -14,6 +14,6 @@ marks [] = 0
 marks (Mark ∷ ts) = marks ts + 1
 marks (t ∷ ts) = marks ts
 
--- there is a name and a mark, as a test
+-- whether there are both a name and a mark
 abbrev pub has_both : List Token → Bool
 has_both ts = nat_lt 0 (length (names ts)) && nat_lt 0 (marks ts)

@@ -1,4 +1,4 @@
--- What contracts see of a parsed query: its two texts.
+-- The view that contracts have of a parsed query: the query with marks, and the names.
 use Rattle.std.specs.Prelude.{ℕ, List, Bool, ◌&&◌, nat_eq}
 use Rattle.std.specs.Cmp.Lexicographic.{pointwise}
 use Rattle.mysql_named_params.specs.Tokens.{Token, text_of}
@@ -16,7 +16,7 @@ pub record Parsed : Type 0 where
 abbrev pub parsed : List Token → Parsed
 parsed ts = record { query = text_of (with_marks ts); params = names ts }
 
--- the two are equal, as a test
+-- whether the two are equal
 abbrev pub same_parsed : Parsed → Parsed → Bool
 same_parsed p q =
     pointwise nat_eq p.query q.query && pointwise (pointwise nat_eq) p.params q.params

@@ -1,5 +1,5 @@
--- The places of a query, which are its names and marks, handed on; and each put in place of the
--- other.
+-- The places of a query, which are its names and marks. Also the tokens with marks in place of
+-- names, and with names in place of marks.
 use Rattle.std.specs.Prelude.{ℕ, ◌+◌, ◌<◌, List, [], ◌∷◌, length, ⊤}
 use Rattle.mysql_named_params.specs.Tokens.{Token, Name, Mark}
 pub use Rattle.mysql_named_params.specs.NamesAndMarks.{names, marks, has_both}

@@ -1,5 +1,5 @@
--- The tokens of a query as a caller has it read: those of the grammar, or these with wide names.
--- The calls that take wide names speak of the second.
+-- The tokens of a query in a reading: those of the grammar, or those with wide names. The contracts
+-- of calls for wide names use the latter.
 use Rattle.std.specs.Prelude.{◌≡◌, ℕ, Bool, true, false, List}
 use Rattle.mysql_named_params.specs.Tokens.{Token, IsTokens}
 use Rattle.mysql_named_params.specs.WideNames.{widened}
@@ -15,11 +15,11 @@ IsTokensWith true mode query ts =
 abbrev pub reading_with : (wide_names mode : Bool) → Reading
 reading_with wide_names mode = record { no_backslash_escape = mode; wide_names = wide_names }
 
--- the reading by the names of the grammar
+-- the reading with the names of the grammar
 abbrev pub grammar_reading : Bool → Reading
 grammar_reading mode = record { no_backslash_escape = mode; wide_names = false }
 
--- the reading by wide names
+-- the reading with wide names
 abbrev pub wide_reading : Bool → Reading
 wide_reading mode = record { no_backslash_escape = mode; wide_names = true }
 
@@ -27,10 +27,10 @@ wide_reading mode = record { no_backslash_escape = mode; wide_names = true }
 abbrev pub IsTokensIn : Reading → List ℕ → List Token → Type 0
 IsTokensIn reading = IsTokensWith reading.wide_names reading.no_backslash_escape
 
--- the query has tokens in the reading, and this holds of them; no query has two lists of them
+-- the query has tokens in the reading, and `P` is true for them; no query has two token lists
 abbrev pub OnTokensIn : Reading → List ℕ → (List Token → Type 0) → Type 0
 OnTokensIn reading query P = (ts : List Token) × IsTokensIn reading query ts × P ts
 
--- the query has tokens in the mode, and this holds of them with wide names
+-- the query has tokens with wide names in the mode, and `P` is true for them
 abbrev pub OnWideTokens : Bool → List ℕ → (List Token → Type 0) → Type 0
 OnWideTokens mode = OnTokensIn (wide_reading mode)

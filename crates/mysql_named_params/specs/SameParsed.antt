@@ -1,5 +1,5 @@
--- The test of `Parsed` decides equality. This is a proof: it stands here since a law of an `impl`
--- can cite nothing of proofs/.
+-- The test of `Parsed` decides equality. This is a proof. It is here, since a law of an `impl`
+-- can't cite proofs/.
 use Rattle.std.specs.Prelude.{◌≡◌, Decides}
 use Rattle.std.specs.Cmp.{IsEquivalence, decided, unsigned_Decides}
 use Rattle.std.specs.Cmp.Lexicographic.{pointwise_decides}

@@ -1,6 +1,6 @@
--- The tokens of a query as a function (`laws::tokens_exist`), which computes for a constant query.
--- Only the contracts of fixed queries rest on it, and KnownServers.antt of `mysql_portable` on
--- `len_up_to`.
+-- The tokens of a query as a function (`laws::tokens_exist`), which computes them for a constant
+-- query. Only the contracts of fixed queries depend on it, and KnownServers.antt of
+-- `mysql_portable` on `len_up_to`.
 use Rattle.std.specs.Prelude.{ℕ, suc, Bool, true, false, ◌==◌, ◌&&◌, if◌then◌else◌, List, [], ◌∷◌, length, take, drop, Option, Some, None, unwrap_or}
 use Rattle.mysql_sql_text.specs.StringUnits.{is_escape}
 use Rattle.mysql_named_params.specs.Bytes.{asterisk, backquote, colon, dash, hash, newline, question_mark, slash, is_start_byte, is_name_byte, is_string_quote}
@@ -13,13 +13,13 @@ begins_with [] text = true
 begins_with (w ∷ ws) [] = false
 begins_with (w ∷ ws) (b ∷ bs) = (w == b) && begins_with ws bs
 
--- the length up to and with the first place of the word, or else to the end
+-- the length up to the first occurrence of the word, with it, or else to the end
 abbrev pub len_up_to : List ℕ → List ℕ → ℕ
 len_up_to word [] = 0
 len_up_to word (b ∷ bs) =
     if begins_with word (b ∷ bs) then length word else suc (len_up_to word bs)
 
--- the length of what is left of a string; the flag says that the byte before escapes
+-- the length of the rest of a string; `escaped` says whether the byte before it is an escape
 abbrev pub string_len : Bool → ℕ → Bool → List ℕ → ℕ
 string_len mode quote escaped [] = 0
 string_len mode quote true (b ∷ bs) = suc (string_len mode quote false bs)
@@ -31,7 +31,7 @@ abbrev pub name_len : List ℕ → ℕ
 name_len [] = 0
 name_len (b ∷ bs) = if is_name_byte b then suc (name_len bs) else 0
 
--- the comment that a `-` and then this text open, if they open one
+-- the comment that a `-` followed by this text opens, if it opens one
 abbrev pub dash_comment : List ℕ → Option Token
 dash_comment [] = None
 dash_comment (b ∷ []) = None
@@ -40,7 +40,7 @@ dash_comment (b ∷ gap ∷ bs) =
     then Some (DashComment gap (take (len_up_to (newline ∷ []) bs) bs))
     else None
 
--- the comment that a `/` and then this text open, if they open one
+-- the comment that a `/` followed by this text opens, if it opens one
 abbrev pub block_comment : List ℕ → Option Token
 block_comment [] = None
 block_comment (b ∷ bs) =
@@ -48,7 +48,7 @@ block_comment (b ∷ bs) =
     then Some (BlockComment (take (len_up_to (asterisk ∷ slash ∷ []) bs) bs))
     else None
 
--- the name that a `:` and then this text begin with, if it is one
+-- the name that a `:` followed by this text begins with, if it begins with one
 abbrev pub name_at : List ℕ → Option Token
 name_at [] = None
 name_at (b ∷ bs) =
@@ -68,11 +68,11 @@ not_plain_at mode (b ∷ bs) =
     else if b == question_mark then Some Mark
     else None
 
--- the token with which a text of this first byte, and then this rest, begins
+-- the token with which the text begins; `b` is its first byte, and `bs` the rest
 abbrev pub token_at : Bool → ℕ → List ℕ → Token
 token_at mode b bs = unwrap_or (not_plain_at mode (b ∷ bs)) (Plain b)
 
--- the tokens of the text, at most as many as the list before it has items
+-- the tokens of the text, at most as many as the first list has items
 abbrev pub tokens_within : Bool → List ℕ → List ℕ → List Token
 tokens_within mode [] text = []
 tokens_within mode (item ∷ items) [] = []
@@ -80,6 +80,6 @@ tokens_within mode (item ∷ items) (b ∷ bs) =
     token_at mode b bs
     ∷ tokens_within mode items (drop (length (bytes_of (token_at mode b bs))) (b ∷ bs))
 
--- the tokens of a query: no more than its bytes
+-- the tokens of a query; it has at most as many as bytes
 abbrev pub tokens_of : Bool → List ℕ → List Token
 tokens_of mode query = tokens_within mode query query

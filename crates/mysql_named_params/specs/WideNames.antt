@@ -1,7 +1,7 @@
--- Wide names, which may have capitals, over the tokens of the grammar, whose names have none. A
--- wide name is a `:`, a letter or `_`, and all the letters, digits and `_` that follow. As tokens
--- of the grammar it is a name with the plain bytes behind it, or a plain `:` with those behind it.
--- No server and no standard has these names: they are this library's.
+-- Wide names, which can have capitals, on the tokens of the grammar, whose names have none. A wide
+-- name is a `:`, a letter or `_`, and all the letters, digits and `_` that follow. In the grammar
+-- it is a name followed by plain bytes, or a plain `:` followed by plain bytes. No server and no
+-- standard has wide names; this library defines them.
 use Rattle.std.specs.Prelude.{◌==◌, ◌&&◌, ◌||◌, ◌++◌, nat_le, ℕ, Bool, true, false, IsTrue, IsFalse, if◌then◌else◌, List, [], ◌∷◌, ⊤}
 use Rattle.std.specs.List.{list_all}
 use Rattle.std.specs.Str.{byte}
@@ -20,12 +20,12 @@ is_wide_start b = is_start_byte b || is_capital b
 abbrev pub is_wide_byte : ℕ → Bool
 is_wide_byte b = is_name_byte b || is_capital b
 
--- a byte that begins a wide name, and then bytes that continue one
+-- a byte that begins a wide name, followed by bytes that continue one
 abbrev pub IsWideName : List ℕ → Type 0
 IsWideName [] = ⊥
 IsWideName (b ∷ bs) = IsTrue (is_wide_start b) × IsTrue (list_all is_wide_byte bs)
 
--- the plain bytes in front that continue a wide name, as many as stand there in a row
+-- the plain bytes at the front that continue a wide name, without a gap
 abbrev pub run : List Token → List ℕ
 run [] = []
 run (Plain b ∷ ts) = if is_wide_byte b then b ∷ run ts else []
@@ -41,8 +41,8 @@ abbrev pub continues_wide : List Token → Bool
 continues_wide (Plain b ∷ ts) = is_wide_byte b
 continues_wide ts = false
 
--- The tokens with one name in the place of those of each wide name. If the flag is set, a wide
--- name stands directly before them, and has the run in front of them.
+-- The tokens with one name in place of those of each wide name. If `inside` is true, a wide name is
+-- directly before the tokens, and the run at their front belongs to it.
 abbrev pub widened_from : Bool → List Token → List Token
 widened_from inside [] = []
 widened_from inside (Name name ∷ ts) = Name (name ++ run ts) ∷ widened_from true ts
@@ -52,11 +52,12 @@ widened_from inside (Plain b ∷ ts) =
     else Plain b ∷ widened_from false ts
 widened_from inside (t ∷ ts) = t ∷ widened_from false ts
 
--- the tokens of a query with one name in the place of those of each wide name
+-- the tokens of a query with one name in place of those of each wide name
 abbrev pub widened : List Token → List Token
 widened = widened_from false
 
--- no byte that continues a wide name follows a name, and none that begins one a plain `:`
+-- no byte that continues a wide name follows a name, and no byte that begins one follows a plain
+-- `:`
 abbrev pub HasNoCapitals : List Token → Type 0
 HasNoCapitals [] = ⊤
 HasNoCapitals (Name name ∷ ts) = IsFalse (continues_wide ts) × HasNoCapitals ts

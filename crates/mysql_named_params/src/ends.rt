@@ -1,7 +1,8 @@
-//! Where strings, quoted identifiers and comments end. Most ends are near: the first 16 bytes are
-//! looked at together, or those of a short text and of a block comment one by one. A far end is
-//! found by a jump. What follows the near bytes stands in functions of its own that are never
-//! inlined, so that the way to a near end stays short. Strings have escapes, and stand in `string`.
+//! The ends of strings, quoted identifiers and comments. Most ends are near: the first 16 bytes are
+//! searched at once, or the bytes of a short text and of a block comment one by one. A far end is
+//! found by a jump. The code after the near bytes is in functions that are never inlined, so that
+//! the code for a near end stays short. Strings have escapes, so they have a module of their own,
+//! `string`.
 ghost use Rattle.std.specs.Prelude.{◌≤◌, [], ◌∷◌, length, take, drop};
 ghost use Rattle.mysql_named_params.specs.Bytes.{asterisk, slash, IsUpTo};
 
@@ -11,18 +12,18 @@ use mysql_sql_text::blocks::LANES;
 
 pub(crate) mod string;
 
-// The number of bytes of a string, a name or a line that are looked at 16 at once before `memchr`,
-// which costs a call. With 32 bytes one by one and then a call, ends were 10 in a hundred of the
-// instructions on scripts. More spare calls for ends that are farther, and make long texts slower.
-// No other number was measured.
+// The number of bytes of a string, a name or a line that are searched 16 at once before `memchr`,
+// which costs a call. With 32 bytes one by one and then a call, the ends took 10 in a hundred of
+// the instructions on scripts. A larger number avoids calls for ends that are farther, but makes
+// long texts slower. No other number was measured.
 const BEFORE_MEMCHR: usize = 512;
 
-// The number of bytes of a block comment that are looked at one by one before `memmem`. With 512
-// more after these, 16 at once, comments of some hundred bytes took up to twice the time, and rows
-// of asterisks up to five times.
+// The number of bytes of a block comment that are searched one by one before `memmem`. With 512
+// more bytes after these, 16 at once, comments of some hundred bytes took up to twice the time, and
+// rows of asterisks up to five times.
 const BEFORE_MEMMEM: usize = 32;
 
-/// The length up to and with the first such byte, or to the end.
+/// The length up to the first such byte, with it, or to the end.
 pub(crate) fn len_up_to_byte(text: &[u8], byte: u8) -> usize
     ensures in_range { result ≤ length text.now }
     ensures up_to { IsUpTo (byte ∷ []) (take result text.now) (drop result text.now) }
@@ -49,7 +50,7 @@ fn short_len_up_to_byte(text: &[u8], byte: u8) -> usize
     text.len()
 }
 
-// `len_up_to_byte`, 16 bytes at once and then by a jump.
+// `len_up_to_byte`, 16 bytes at once, and then by a jump.
 #[inline(never)]
 fn long_len_up_to_byte(text: &[u8], byte: u8) -> usize
     ensures in_range { result ≤ length text.now }
@@ -79,8 +80,9 @@ fn far_len_up_to_byte(text: &[u8], byte: u8) -> usize
     }
 }
 
-/// The length up to and with the first `*/`, or to the end. The first bytes go one by one, since
-/// many comments are short; the rest by a jump, since many others are full of asterisks.
+/// The length up to the first `*/`, with it, or to the end. The first bytes are read one by one,
+/// since many comments are short. The rest is searched by a jump, since many other comments are
+/// full of asterisks.
 pub(crate) fn len_up_to_close(text: &[u8]) -> usize
     ensures in_range { result ≤ length text.now }
     ensures up_to { IsUpTo (asterisk ∷ slash ∷ []) (take result text.now) (drop result text.now) }

@@ -1,12 +1,12 @@
-//! Searches of 16 bytes at once, lent to the crate above. Each takes a few instructions, so that a
-//! near end costs no more than a loop over a few bytes, and a far one much less.
+//! Searches of 16 bytes at once, for the crate above. Each takes a few instructions. So a near end
+//! costs no more than a loop over a few bytes, and a far one much less.
 ghost use Rattle.std.specs.Prelude.{◌≡◌, ◌+◌, ◌<◌, ◌≤◌, ℕ, Bool, false, length, slice_index};
 ghost use Rattle.mysql_named_params.specs.Lanes.{first_set, is_neither, EachPasses, IsFirstOther};
 
 use mysql_sql_text::blocks::LANES;
 use std::simd::prelude::*;
 
-/// The index of the lowest bit that is set, if one is. It is lent to the crate above.
+/// The index of the lowest bit that is set, if one is set. For the crate above.
 #[inline(always)]
 pub fn first_set(mask: u64) -> Option<usize>
     ensures { result ≡ first_set mask }
@@ -18,8 +18,8 @@ pub fn first_set(mask: u64) -> Option<usize>
     }
 }
 
-// How many of the 16 bytes from this one on stand before the first that is one of the two, if one
-// of them is.
+// The number of bytes before the first byte that is `first` or `second`, among the 16 bytes from
+// the index `at` on. `None` if none of them is.
 #[inline(always)]
 pub(crate) fn first_of_two(text: &[u8], at: usize, first: u8, second: u8) -> Option<usize>
     requires { at + LANES ≤ length text.now }
@@ -30,7 +30,7 @@ pub(crate) fn first_of_two(text: &[u8], at: usize, first: u8, second: u8) -> Opt
     first_set(found.to_bitmask())
 }
 
-/// A set of bytes that a search passes. It is lent to the crate above.
+/// A set of bytes that a search skips. For the crate above.
 pub trait ByteSet: Copy {
     // whether the set contains a byte
     ghost contains: { Self → ℕ → Bool };
@@ -39,19 +39,19 @@ pub trait ByteSet: Copy {
     fn contains(self, byte: u8) -> bool
         ensures { result ≡ contains self byte };
 
-    /// How many of the 16 bytes from this one on stand before the first that the set doesn't
-    /// contain, if there is one.
+    /// The number of bytes before the first byte that isn't in the set, among the 16 bytes from the
+    /// index `at` on. `None` if all of them are in the set.
     fn first_other(self, text: &[u8], at: usize) -> Option<usize>
         requires { at + LANES ≤ length text.now }
         ensures { IsFirstOther (contains self) text.now at LANES result };
 }
 
-/// All bytes except two. It is lent to the crate above.
+/// All bytes except two. For the crate above.
 #[derive(Clone, Copy)]
 pub struct Neither {
-    /// One of the two.
+    /// One of the two bytes.
     pub first: u8,
-    /// The other, or the same again.
+    /// The other byte, or the same byte again.
     pub second: u8,
 }
 
@@ -69,10 +69,10 @@ impl ByteSet for Neither {
     }
 }
 
-/// The end of the run of bytes of the set that begins at an index, or of the search. The bytes go
-/// 16 at once as long as the text has so many, also after the end of the search, and then one by
-/// one: so a run may end after it. Inline, so that each set has a loop of its own. It is lent to
-/// the crate above.
+/// The end of the run of bytes of the set that begins at `from`. If the run reaches `end`, the
+/// result is `end` or an index after it up to which the run goes: as long as the text has 16 more
+/// bytes, they are searched at once, even beyond `end`. The function is inlined, so that each set
+/// has a loop of its own. For the crate above.
 #[inline(always)]
 pub fn run_end<S: ByteSet>(set: S, text: &[u8], from: usize, end: usize) -> usize
     requires { (from ≤ end) × (end ≤ length text.now) }

@@ -1,5 +1,5 @@
-//! Laws of the definitions that the contracts cite, and of equality. The functions that have no
-//! result do nothing: each is called for what it ensures.
+//! Laws about the definitions that the contracts cite, and about equality. A function without a
+//! result does nothing: it is called for its `ensures`.
 ghost use Rattle.std.specs.Prelude.{◌≡◌, ℕ, ◌+◌, ◌↔◌, All, Bool, List, [], length, IsTrue};
 ghost use Rattle.mysql_named_params.specs.Tokens.{Token, IsToken, IsTokens, text_of};
 ghost use Rattle.mysql_named_params.specs.TokensOf.{tokens_of};
@@ -12,47 +12,47 @@ ghost use Rattle.mysql_named_params.specs.WideNames.{HasNoCapitals, IsWideName, 
 
 use crate::named_params::{MixedParamsError, NamedParamsError, ParsedNamedParams};
 
-/// No query has two token lists in one mode.
+/// No query has two token lists in the same mode.
 pub fn one_token_list()
     ensures unique { (mode : Bool) (query : List ℕ) (ts us : List Token) →
         IsTokens mode query ts → IsTokens mode query us → ts ≡ us }
 {}
 
-/// Every query has tokens, and a function gives them. For a constant query they are computed.
+/// Every query has tokens, and a function computes them, even for a constant query.
 pub fn tokens_exist()
     ensures tokens { (mode : Bool) (query : List ℕ) → IsTokens mode query (tokens_of mode query) }
     ensures unique { (mode : Bool) (query : List ℕ) (ts : List Token) →
         IsTokens mode query ts → tokens_of mode query ≡ ts }
 {}
 
-/// A token looks at no more than two of the bytes after it, and an open one at whether there are
-/// any. Beyond that, any bytes may follow it.
+/// At most two bytes after a token decide whether it is one. For an open token, it also matters
+/// whether any bytes follow. Apart from that, any bytes may follow the token.
 pub fn locality()
     ensures local { (mode : Bool) (t : Token) (rest other : List ℕ) →
         LooksAlike mode t rest other → IsToken mode t rest → IsToken mode t other }
 {}
 
-/// The positions are those of the names and marks: as many, one after another, and at each the
-/// bytes of the tokens before a name or a mark end.
+/// The positions are those of the names and marks. There are as many, in ascending order, and at
+/// each a name or mark begins.
 pub fn positions_of_places()
     ensures count { (ts : List Token) → length (positions ts) ≡ length (names ts) + marks ts }
     ensures ascending { (ts : List Token) → AscendFrom 0 (positions ts) }
     ensures places { (ts : List Token) → HavePlacesAt ts (positions ts) }
 {}
 
-/// Putting the names back in place of the marks undoes the renaming of a query without marks.
+/// If a query has no marks, putting the names back in place of the marks undoes the renaming.
 pub fn renaming_undone()
     ensures undone { (ts : List Token) → marks ts ≡ 0 → with_names (with_marks ts) (names ts) ≡ ts }
 {}
 
-/// The query with marks of a query without names is the query itself.
+/// If a query has no names, the query with marks is the query itself.
 pub fn nameless_is_unchanged()
     ensures unchanged { (mode : Bool) (query : List ℕ) (ts : List Token) →
         IsTokens mode query ts → names ts ≡ [] → (parsed ts).query ≡ query }
 {}
 
-/// With wide names the bytes of a query and its marks stay as they are, and each name is a letter
-/// or `_`, and then letters, digits and `_`.
+/// Wide names change neither the bytes of a query nor its marks. Each wide name is a letter or `_`,
+/// and then letters, digits and `_`.
 pub fn wide_names()
     ensures bytes { (ts : List Token) → text_of (widened ts) ≡ text_of ts }
     ensures marks { (ts : List Token) → marks (widened ts) ≡ marks ts }
@@ -66,22 +66,23 @@ pub fn wide_names_are_whole()
     ensures again { (ts : List Token) → widened (widened ts) ≡ widened ts }
 {}
 
-/// A query without capitals behind a colon or a name has the tokens of the grammar. So has one
+/// A query without capitals after a colon or a name has the tokens of the grammar. So does a query
 /// without wide names.
 pub fn names_without_capitals()
     ensures same { (ts : List Token) → HasNoCapitals ts → widened ts ≡ ts }
     ensures nameless { (ts : List Token) → names (widened ts) ≡ [] → widened ts ≡ ts }
 {}
 
-/// Locality: with a mark in the place of each wide name a query has the tokens of the grammar that
-/// it had, with that mark in the place of those of the wide name.
+/// Locality: put a mark in place of each wide name of a query. Its tokens of the grammar are then
+/// those of the query, with this mark in place of the tokens of the wide name.
 pub fn marked_wide_names()
     ensures tokens { (mode : Bool) (query : List ℕ) (ts : List Token) → IsTokens mode query ts →
         IsTokens mode (text_of (with_marks (widened ts))) (with_marks (widened ts)) }
 {}
 
-/// With its wide names in lower case a query has tokens of the grammar: those that it had, with
-/// these names. Names in lower case have as many bytes, and marks in their place are the same.
+/// Put the wide names of a query in lower case. Its tokens are then tokens of the grammar: those of
+/// the query, with these names. The text keeps its length, and with marks in place of names it is
+/// the same.
 pub fn lowered_names()
     ensures tokens { (mode : Bool) (query : List ℕ) (ts : List Token) → IsTokens mode query ts →
         IsTokens mode (text_of (lower_names (widened ts))) (lower_names (widened ts)) }
@@ -90,7 +91,7 @@ pub fn lowered_names()
         length (text_of (lower_names ts)) ≡ length (text_of ts) }
 {}
 
-/// Errors of mixed parameters are equal: there is one.
+/// Errors of mixed parameters are equal, since there is only one value.
 pub fn mixed_error_equality(a: &MixedParamsError, b: &MixedParamsError) -> bool
     ensures same { IsTrue result ↔ (a.now ≡ b.now) }
     ensures member { result ≡ ⟦<MixedParamsError as PartialEq>⟧.eq a.now b.now }

@@ -11,8 +11,7 @@ ghost use Rattle.mysql_named_params.specs.WideNames.{is_capital};
 use crate::places::{Reading, first_place_in};
 use std::alloc::{AllocError, Global};
 
-/// Whether one of the wide names of a query has a capital. It allocates nothing, and is lent to the
-/// crates above.
+/// Whether a wide name of a query has a capital. It allocates nothing. For the crates above.
 pub fn has_capitals(query: &[u8], no_backslash_escape: bool) -> bool
     ensures { OnWideTokens no_backslash_escape query.now (λ ts.
         result ≡ have_capitals (names ts)) }
@@ -32,7 +31,7 @@ pub fn has_capitals(query: &[u8], no_backslash_escape: bool) -> bool
     false
 }
 
-// Whether a capital stands in the text.
+// Whether the text has a capital.
 fn holds_capital(text: &[u8]) -> bool
     ensures { result ≡ list_any is_capital text.now }
 {
@@ -40,7 +39,7 @@ fn holds_capital(text: &[u8]) -> bool
 }
 
 /// The query with its wide names in lower case, so that they are names of the grammar. All other
-/// bytes stay, and so each position. It is lent to the crates above.
+/// bytes and all positions stay the same. For the crates above.
 pub fn lowered_query(
     alloc: Global,
     query: &[u8],

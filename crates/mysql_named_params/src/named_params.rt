@@ -22,7 +22,7 @@ use thiserror::Error;
 #[error("Named and positional params in one query")]
 pub struct MixedParamsError;
 
-/// Why the names of a query can't be had.
+/// The cause for which the names of a query can't be returned.
 #[derive(Debug, PartialEq, Drop, Error)]
 pub enum NamedParamsError {
     /// The query has both named and positional parameters.
@@ -35,7 +35,7 @@ pub enum NamedParamsError {
 
 /// A query with `?` in place of each named parameter, and the names.
 ///
-/// The names are slices of the query that was parsed; a query without names is that very slice.
+/// The names are slices of the parsed query. If it has no names, the query is that same slice.
 #[derive(Debug, Drop)]
 pub struct ParsedNamedParams<'a> {
     query: CowSlice<'a, u8>,
@@ -60,15 +60,14 @@ impl<'a> Model for ParsedNamedParams<'a> {
 }
 
 impl<'a> ParsedNamedParams<'a> {
-    /// Finds the names outside strings, quoted identifiers and comments. A name is `:`, one of `a`
-    /// to `z` and `_`, and then as many of these and `0` to `9` as follow. A query that has a name
-    /// and a `?` there is refused as `Mixed`.
+    /// Finds the names outside strings, quoted identifiers and comments. A name is `:`, then a
+    /// letter `a` to `z` or `_`, and then all letters `a` to `z`, digits and `_` that follow. A
+    /// query that also has a `?` there is refused as `Mixed`.
     ///
-    /// The flag is the server's mode: with `true`, as for an `sql_mode` with
-    /// `NO_BACKSLASH_ESCAPES`, a backslash is a byte like any other; with `false` it escapes the
-    /// byte after it in a string. `Memory` is returned only for a query with names and without
-    /// marks.
-    // A query has one token list in each mode (`laws::one_token_list`), so the clauses speak of the
+    /// `no_backslash_escape` is the server's mode. With `true`, as for an `sql_mode` with
+    /// `NO_BACKSLASH_ESCAPES`, a backslash is a byte like any other. With `false`, it escapes the
+    /// byte after it in a string. `Memory` comes only for a query with names and without marks.
+    // A query has one token list in each mode (`laws::one_token_list`). So all clauses speak of the
     // same `ts`.
     pub fn parse_in(
         alloc: Global,
@@ -84,8 +83,8 @@ impl<'a> ParsedNamedParams<'a> {
         ensures memory { OnTokens no_backslash_escape query.now (λ ts.
             IsErrOf result (NamedParamsError.Memory alloc_error) → HasName ts × (marks ts ≡ 0)) }
 
-        // The query with marks has no names. If names were found, it has as many marks, and putting
-        // the names back in their place gives the query that was parsed.
+        // The query with marks has no names. If names were found, it has as many marks. Putting the
+        // names back in place of the marks gives the parsed query.
         ensures nameless { IfOk result (λ p. OnTokens no_backslash_escape p.query (λ us.
             names us ≡ [])) }
         ensures marked { IfOk result (λ p. OnTokens no_backslash_escape p.query (λ us.
@@ -103,7 +102,7 @@ impl<'a> ParsedNamedParams<'a> {
         if survey.has_mark {
             return Err(NamedParamsError::Mixed(MixedParamsError));
         }
-        // No other call hands up such an error, so there is no conversion.
+        // No other call returns such an error, so there is no conversion.
         match renamed_query(alloc, query, survey, no_backslash_escape) {
             Ok(parsed) => Ok(parsed),
             Err(error) => Err(NamedParamsError::Memory(error)),
@@ -112,7 +111,7 @@ impl<'a> ParsedNamedParams<'a> {
 
     /// Finds the names outside strings, quoted identifiers and comments, in the mode in which a
     /// backslash escapes: [`parse_in`](ParsedNamedParams::parse_in) with `false`.
-    // A query has one token list (`laws::one_token_list`), so the clauses speak of the same `ts`.
+    // A query has one token list (`laws::one_token_list`). So all clauses speak of the same `ts`.
     pub fn parse(alloc: Global, query: &'a [u8]) -> Result<ParsedNamedParams<'a>, NamedParamsError>
         ensures ok { OnTokens with_backslashes query.now (λ ts. IfOk result (λ p. p ≡ parsed ts)) }
         ensures mixed { OnTokens with_backslashes query.now (λ ts.
@@ -122,8 +121,8 @@ impl<'a> ParsedNamedParams<'a> {
         ensures memory { OnTokens with_backslashes query.now (λ ts.
             IsErrOf result (NamedParamsError.Memory alloc_error) → HasName ts × (marks ts ≡ 0)) }
 
-        // The query with marks has no names. If names were found, it has as many marks, and putting
-        // the names back in their place gives the query that was parsed.
+        // The query with marks has no names. If names were found, it has as many marks. Putting the
+        // names back in place of the marks gives the parsed query.
         ensures nameless { IfOk result (λ p. OnTokens with_backslashes p.query (λ us.
             names us ≡ [])) }
         ensures marked { IfOk result (λ p. OnTokens with_backslashes p.query (λ us.
@@ -134,7 +133,7 @@ impl<'a> ParsedNamedParams<'a> {
         ParsedNamedParams::parse_in(alloc, query, false)
     }
 
-    /// The query with `?` in place of each name, and all else as it was.
+    /// The query with `?` in place of each name. All other bytes are unchanged.
     pub fn query(&self) -> &[u8]
         ensures query { result.now ≡ self.now.query }
     {
@@ -149,8 +148,8 @@ impl<'a> ParsedNamedParams<'a> {
         self.params.as_slice()
     }
 
-    /// A copy over the same query. The names are borrowed as before. Only a copy of a query with
-    /// names allocates, on the allocator that its names hold.
+    /// A copy for the same query. Its names are borrowed like these. Only a copy of a query with
+    /// names allocates, on the allocator of the names.
     pub fn clone(&self) -> Result<ParsedNamedParams<'a>, AllocError>
         ensures equal { IfOk result (λ copy. copy ≡ self.now) }
         ensures memory { OnErr result (self.now.params ≢ []) }
@@ -171,19 +170,19 @@ impl<'a> ParsedNamedParams<'a> {
     }
 }
 
-// What is known of a query before anything is allocated.
+// The facts that are known about a query before anything is allocated.
 #[derive(Clone, Copy)]
 struct NameSurvey {
     has_name: bool,
     has_mark: bool,
-    // No name and no mark stands before this index.
+    // No name and no mark comes before this index.
     start: usize,
     // The number of names if they were counted, or else 0.
     counted_names: usize,
 }
 
-// Surveys a query. Without a byte `?` there is no mark, and the names need no count. Otherwise
-// names and marks are counted, since a query with both is refused before anything is allocated.
+// Surveys a query. Without a byte `?` there is no mark, and the names needn't be counted. Otherwise
+// the names and marks are counted, since a query with both is refused before anything is allocated.
 fn survey_of(query: &[u8], no_backslash_escape: bool) -> NameSurvey
     ensures places { OnTokens no_backslash_escape query.now (λ ts.
         (IsTrue result.has_name ↔ HasName ts) × (IsTrue result.has_mark ↔ HasMark ts)) }

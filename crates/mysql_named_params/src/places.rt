@@ -1,5 +1,5 @@
-//! The first name or mark of a text, and the number of them in a query. The crates above go from
-//! place to place by `first_place_in`; no user needs it.
+//! The first name or mark of a text, and the number of names and marks in a query. The crates above
+//! walk from place to place by `first_place_in`; no user needs it.
 ghost use Rattle.std.specs.Prelude.{◌≡◌, ◌+◌, ◌≤◌, ◌<◌, ◌&&◌, None, length, take, drop, IfSome};
 ghost use Rattle.mysql_named_params.specs.Tokens.{OnTokens};
 ghost use Rattle.mysql_named_params.specs.Places.{names, marks, place_count};
@@ -9,7 +9,7 @@ ghost use Rattle.mysql_named_params.specs.WidePlaces.{opens_wide_name};
 
 use crate::tokens::{TokenKind, first_token, opens_wide_name, plain_end, wide_len};
 
-/// What stands at a place of a query.
+/// The kind of a place of a query.
 #[derive(Clone, Copy, Debug, PartialEq, Eq)]
 pub enum PlaceKind {
     /// A name.
@@ -25,12 +25,12 @@ pub struct FoundPlace {
     pub before: usize,
     /// Whether it is a name or a mark.
     pub kind: PlaceKind,
-    /// The number of its bytes; those of a name include the colon.
+    /// The number of its bytes. Those of a name include the colon.
     pub len: usize,
 }
 
 impl FoundPlace {
-    /// The text cut at the place: the bytes before it, its own, and those after it.
+    /// Cuts the text at the place: the bytes before it, its own, and those after it.
     pub fn cut<'a>(&self, text: &'a [u8]) -> (&'a [u8], &'a [u8], &'a [u8])
         requires in_range { self.now.before + self.now.len ≤ length text.now }
         ensures before { result.0.now ≡ take self.now.before text.now }
@@ -43,17 +43,17 @@ impl FoundPlace {
     }
 }
 
-/// How a query is read. It is lent to the crates above; no user needs it.
+/// How a query is read: the mode, and the kind of names. For the crates above; no user needs it.
 #[derive(Clone, Copy, Debug, PartialEq, Eq)]
 pub struct Reading {
     /// Whether a backslash is a byte like any other in strings, as for an `sql_mode` with
     /// `NO_BACKSLASH_ESCAPES`.
     pub no_backslash_escape: bool,
-    /// Whether names are wide names, which may have capitals.
+    /// Whether names are wide names, which can have capitals.
     pub wide_names: bool,
 }
 
-/// The first name or mark of a text. Only this function, `first_place_in` and the searches of
+/// The first name or mark of a text. Only this function, [`first_place_in`] and the searches of
 /// `mysql_portable` divide a text into its tokens.
 pub fn first_place(text: &[u8], no_backslash_escape: bool) -> Option<FoundPlace>
     ensures place { OnTokens no_backslash_escape text.now (λ ts. IfSome result (IsFirstPlace ts)) }
@@ -71,7 +71,8 @@ pub fn first_place(text: &[u8], no_backslash_escape: bool) -> Option<FoundPlace>
     )
 }
 
-/// The first name or mark of a text in a reading, so that a wide name is one place.
+/// The first name or mark of a text in a reading. In a reading with wide names, a wide name is one
+/// place.
 pub fn first_place_in(text: &[u8], reading: Reading) -> Option<FoundPlace>
     ensures place { OnTokensIn reading text.now (λ ts. IfSome result (IsFirstPlace ts)) }
     ensures none { OnTokensIn reading text.now (λ ts. result ≡ None → place_count ts ≡ 0) }
@@ -90,7 +91,7 @@ pub fn first_place_in(text: &[u8], reading: Reading) -> Option<FoundPlace>
     )
 }
 
-// The same. Inline, so that the walk without wide names tests for none.
+// The same. It is inlined, so that the walk without wide names doesn't test for them.
 #[inline(always)]
 fn first_place_read(text: &[u8], reading: Reading) -> Option<FoundPlace>
     ensures place { OnTokensIn reading text.now (λ ts. IfSome result (IsFirstPlace ts)) }
@@ -130,7 +131,7 @@ fn first_place_read(text: &[u8], reading: Reading) -> Option<FoundPlace>
     None
 }
 
-// Whether the text begins with a wide name, and the reading has them.
+// Whether the text begins with a wide name, and the reading has wide names.
 #[inline(always)]
 fn opens_wide_name_in(text: &[u8], reading: Reading) -> bool
     ensures { result ≡ (reading.wide_names && opens_wide_name text.now) }

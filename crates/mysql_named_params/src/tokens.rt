@@ -1,5 +1,5 @@
 //! The token at the front of a text, and runs of bytes with which only plain tokens begin. `places`
-//! finds names and marks by them; no user needs them.
+//! finds names and marks with these functions; no user needs them.
 ghost use Rattle.std.specs.Prelude.{◌≡◌, ◌<◌, ◌≤◌, length, take, drop};
 ghost use Rattle.mysql_named_params.specs.Bytes.{is_white_space, is_start_byte, is_name_byte, begins};
 ghost use Rattle.mysql_named_params.specs.FirstToken.{IsNameFront, IsFirstToken, opens_dash_comment, opens_block_comment};
@@ -12,7 +12,7 @@ use crate::ends::{len_up_to_byte, len_up_to_close};
 use crate::lanes::{ByteSet, first_set, run_end};
 use std::simd::prelude::*;
 
-/// The kinds of tokens that a search for names and marks tells apart.
+/// The kinds of tokens that a search for names and marks distinguishes.
 #[derive(Clone, Copy, Debug, PartialEq, Eq)]
 pub enum TokenKind {
     /// A name.
@@ -23,14 +23,14 @@ pub enum TokenKind {
     Other,
 }
 
-/// Whether the byte is white space. It is lent to the crate above.
+/// Whether the byte is white space. For the crate above.
 pub fn is_white_space(byte: u8) -> bool
     ensures { result ≡ is_white_space byte }
 {
     byte.is_ascii_whitespace()
 }
 
-/// Whether the byte begins a name. It is lent to the crate above.
+/// Whether the byte begins a name. For the crate above.
 pub fn is_start_byte(byte: u8) -> bool
     ensures { result ≡ is_start_byte byte }
 {
@@ -91,7 +91,7 @@ pub(crate) fn opens_wide_name(text: &[u8]) -> bool
     }
 }
 
-/// How many bytes at the front of the text continue a wide name.
+/// The number of bytes at the front of the text that continue a wide name.
 pub(crate) fn wide_len(text: &[u8]) -> usize
     ensures in_range { result ≤ length text.now }
     ensures len { result ≡ wide_len text.now }
@@ -123,7 +123,7 @@ impl ByteSet for WideBytes {
     }
 }
 
-// Whether a `-` and then this text open a comment.
+// Whether a `-` followed by this text opens a comment.
 fn opens_dash_comment(text: &[u8]) -> bool
     ensures { result ≡ opens_dash_comment text.now }
 {
@@ -133,7 +133,7 @@ fn opens_dash_comment(text: &[u8]) -> bool
     }
 }
 
-// Whether a `/` and then this text open a comment.
+// Whether a `/` followed by this text opens a comment.
 fn opens_block_comment(text: &[u8]) -> bool
     ensures { result ≡ opens_block_comment text.now }
 {
@@ -144,7 +144,7 @@ fn opens_block_comment(text: &[u8]) -> bool
     }
 }
 
-// Whether a `:` and then this text open a name.
+// Whether a `:` followed by this text opens a name.
 fn opens_name(text: &[u8]) -> bool
     ensures { result ≡ begins is_start_byte text.now }
 {
@@ -181,14 +181,14 @@ pub fn first_token(text: &[u8], no_backslash_escape: bool) -> (TokenKind, usize)
     }
 }
 
-// The number of bytes of a plain run that are passed by the table before 16 go at once. With none,
-// short tokens that repeat, as `(?,?,?)` or `'Y','N'`, took 1.2 to 1.8 times the time. More make
-// longer runs slower. No other number was measured.
+// The number of bytes of a plain run that are skipped by the table before 16 bytes are searched at
+// once. With none, short tokens that repeat, such as `(?,?,?)` or `'Y','N'`, took 1.2 to 1.8 times
+// the time. With more, longer runs are slower. No other number was measured.
 const PLAIN_BY_TABLE: usize = 8;
 
-/// An index up to which no byte, from the given one on, begins a token other than a plain one. It
+/// An index from `from` on, such that each byte from `from` up to it begins only a plain token. It
 /// is in fact the furthest such index. The contract needn't say so, because `first_place` examines
-/// the byte there itself.
+/// the byte at the index itself.
 pub(crate) fn plain_end(text: &[u8], from: usize) -> usize
     requires { from ≤ length text.now }
     ensures in_range { (from ≤ result) × (result ≤ length text.now) }
@@ -214,7 +214,7 @@ fn far_plain_end(text: &[u8], from: usize) -> usize
     run_end(PlainBytes, text, from, text.len())
 }
 
-// The bytes with which no token but a plain one begins.
+// The bytes with which only a plain token begins.
 #[derive(Clone, Copy)]
 struct PlainBytes;
 
@@ -239,14 +239,14 @@ impl ByteSet for PlainBytes {
     }
 }
 
-// Whether no token but a plain one begins with the byte.
+// Whether only a plain token begins with the byte.
 fn is_always_plain(byte: u8) -> bool
     ensures { result ≡ is_always_plain byte }
 {
     ALWAYS_PLAIN[byte as usize] == b'1'
 }
 
-// `1` for each byte with which no token but a plain one begins, 32 bytes a line.
+// `1` for each byte with which only a plain token begins, 32 bytes a line.
 static ALWAYS_PLAIN: [u8; 256] = *b"\
     11111111111111111111111111111111\
     11001110111110101111111111011110\

@@ -1,10 +1,10 @@
-//! Where a string ends: at the first quote that isn't escaped, or nowhere.
+//! The end of a string: the first quote that isn't escaped, or none.
 //!
-//! - `string_len` is for all strings, and finds the end of an empty one and a near end itself.
+//! - `string_len` is for all strings. It finds the end of an empty string and a near end itself.
 //! - `short_string_len` is for texts of fewer than 16 bytes, one by one.
 //! - `long_string_len` is for an end after the first 16 bytes, by blocks and by jumps.
 //! - `closing_quote` is for one block of 16 bytes, and `far_quote` is for a jump.
-//! - `is_escaped` is for one quote, by the escapes before it.
+//! - `is_escaped` is for one quote. It looks at the escapes before the quote.
 ghost use Rattle.std.specs.Prelude.{◌≡◌, ◌+◌, ◌≤◌, length, take, drop, map, IsTrue};
 ghost use Rattle.std.specs.Simd.Lanes.{mask_l};
 ghost use Rattle.memchr.specs.Find.{is_byte};
@@ -18,7 +18,8 @@ use memchr::memchr;
 use mysql_sql_text::blocks::LANES;
 use std::simd::prelude::*;
 
-/// The length of a string after its opening quote. Many strings are empty, so that is asked first.
+/// The length of a string after its opening quote. Many strings are empty, so that case is tested
+/// first.
 pub(crate) fn string_len(text: &[u8], quote: u8, no_backslash_escape: bool) -> usize
     requires { IsTrue (is_string_quote quote) }
     ensures in_range { result ≤ length text.now }
@@ -57,8 +58,8 @@ fn short_string_len(text: &[u8], quote: u8, no_backslash_escape: bool) -> usize
     at
 }
 
-// `string_len`, if none of the first 16 bytes closes the string. Only quotes are looked for: the
-// bytes before one tell whether it closes the string, so that other escapes cost nothing.
+// `string_len`, if none of the first 16 bytes closes the string. Only quotes are searched for. The
+// bytes before a quote decide whether it closes the string, so other escapes cost nothing.
 #[inline(never)]
 fn long_string_len(text: &[u8], quote: u8, no_backslash_escape: bool) -> usize
     requires long { LANES ≤ length text.now }
@@ -89,8 +90,8 @@ fn long_string_len(text: &[u8], quote: u8, no_backslash_escape: bool) -> usize
     at
 }
 
-// The index of the first closing quote among the 16 bytes from this one on. Each bit of a mask is
-// looked at once, so that quotes that stand close together cost no further comparison.
+// The index of the first closing quote among the 16 bytes from the index `from` on. Each bit of a
+// mask is read once, so quotes that are close together cost no further comparison.
 #[inline(always)]
 fn closing_quote(text: &[u8], from: usize, quote: u8, no_backslash_escape: bool) -> Option<usize>
     requires { from + LANES ≤ length text.now }
@@ -110,8 +111,8 @@ fn closing_quote(text: &[u8], from: usize, quote: u8, no_backslash_escape: bool)
     None
 }
 
-// One bit for each of the 16 bytes from this one on, the first byte's lowest: whether it is the
-// quote.
+// One bit for each of the 16 bytes from the index `at` on: whether the byte is the quote. The
+// lowest bit is that of the first byte.
 #[inline(always)]
 fn quotes_of_block(text: &[u8], at: usize, quote: u8) -> u64
     requires { at + LANES ≤ length text.now }
@@ -122,8 +123,8 @@ fn quotes_of_block(text: &[u8], at: usize, quote: u8) -> u64
         .to_bitmask()
 }
 
-// Whether the byte at this index of a string is escaped: the escapes directly before it pair up,
-// except one.
+// Whether the byte at this index of a string is escaped: the number of escapes directly before it
+// is odd.
 fn is_escaped(text: &[u8], at: usize, no_backslash_escape: bool) -> bool
     requires { at ≤ length text.now }
     ensures { result ≡ is_escaped no_backslash_escape text.now at }
@@ -144,7 +145,7 @@ fn is_escape(byte: u8, no_backslash_escape: bool) -> bool
     !no_backslash_escape && byte == b'\\'
 }
 
-// The index of the next quote from this one on, or the end, by a jump.
+// The index of the next quote from the index `from` on, or the end, by a jump.
 #[inline(never)]
 fn far_quote(text: &[u8], from: usize, quote: u8) -> usize
     requires { from ≤ length text.now }
