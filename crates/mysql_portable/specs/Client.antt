@@ -1,10 +1,10 @@
--- The client `mysql` or `mariadb` that keeps comments (`--comments`), as a reader of texts. It
--- finds strings, identifiers and comments as a server does, to know where a statement ends, and in
--- one point as no server does: within a block comment it looks for `/*!`, `/*+` and `/*/`, and may
--- then end the comment elsewhere. Example: `/* a /*/ ; ' */`, of which the grammar's comment ends
--- before the `;`, and MySQL's client ends it at the very end.
--- A client is data without laws, as a server is. Sources: MySQL Reference Manual, "mysql Client
--- Options" (`--comments`), and what the clients send (docs/EVIDENCE.md).
+-- The client `mysql` or `mariadb` that keeps comments (`--comments`), as a reader of texts. Like a
+-- server, it finds strings, identifiers and comments, to know where a statement ends. It differs
+-- from every server in one point: within a block comment it looks for `/*!`, `/*+` and `/*/`, and
+-- may then end the comment elsewhere. For example, the comment of `/* a /*/ ; ' */` ends before the
+-- `;` in the grammar, and at the very end in MySQL's client. A client is data without laws, like a
+-- server. Sources: MySQL Reference Manual, "mysql Client Options" (`--comments`), and the texts
+-- that the clients send (docs/EVIDENCE.md).
 use Rattle.std.specs.Prelude.{◌≡◌, ◌≢◌, ℕ, Bool, IsFalse, false, not, ◌==◌, ◌&&◌, ◌||◌, if◌then◌else◌, List, [], ◌∷◌, ◌++◌, take, ⊤}
 use Rattle.mysql_named_params.specs.Bytes.{asterisk, slash, is_extension, begins, IsUpTo}
 use Rattle.mysql_named_params.specs.Tokens.{Token, bytes_of, text_of, BlockComment, Plain}
@@ -22,7 +22,7 @@ abbrev pub begins_end : List ℕ → Bool
 begins_end [] = false
 begins_end (b ∷ bs) = b == asterisk && begins (λ c. c == slash) bs
 
--- such an opener stands in the text, before its first `*/`, or around it
+-- such an opener begins in the text before the first `*/`
 abbrev pub holds_opener : List ℕ → Bool
 holds_opener [] = false
 holds_opener (b ∷ bs) =
@@ -30,24 +30,24 @@ holds_opener (b ∷ bs) =
 
 -- a client
 pub record Client : Type 0 where
-  -- as which server it reads otherwise
+  -- the server that it otherwise reads like
   pub reader : Server
-  -- what it makes of `/*` and the text after it; asked if the comment holds such an opener
+  -- how it reads `/*` and the text after it; used only if the comment holds such an opener
   pub inside : List ℕ → Block
 
--- what the client makes of `/*` and the text after it
+-- how the client reads `/*` and the text after it
 abbrev pub block_by : Client → List ℕ → Block
 block_by client text =
     if begins_special text then client.reader.special text
     else if holds_opener text then client.inside text
     else comment
 
--- what follows `/*` in a comment, before a rest
+-- the bytes after `/*` in a comment, before a rest
 pub data IsBlockTailBy (client : Client) (tail rest : List ℕ) : Type 0 where
   -- up to `*/`
   usual_block_by : block_by client (tail ++ rest) ≡ comment →
       IsUpTo (asterisk ∷ slash ∷ []) tail rest → IsBlockTailBy client tail rest
-  -- as the client has it
+  -- up to the client's own end
   own_block_by : (n : ℕ) → block_by client (tail ++ rest) ≡ comment_of n →
       take n (tail ++ rest) ≡ tail → IsBlockTailBy client tail rest
 
@@ -56,14 +56,15 @@ abbrev pub IsNotPlainBy : Client → Bool → Token → List ℕ → Type 0
 IsNotPlainBy client mode (BlockComment tail) rest = IsBlockTailBy client tail rest
 IsNotPlainBy client mode t rest = IsNotPlainOn client.reader mode t rest
 
--- a token by the client before a rest: a plain byte is one with which no other token begins there
+-- a token by the client before a rest; a byte is a plain token if no other token begins with it
+-- there
 abbrev pub IsTokenBy : Client → Bool → Token → List ℕ → Type 0
 IsTokenBy client mode (Plain b) rest =
     (t : Token) (after : List ℕ) → IsNotPlainBy client mode t after →
     bytes_of t ++ after ≢ b ∷ rest
 IsTokenBy client mode t rest = IsNotPlainBy client mode t rest
 
--- each is a token by the client before the text of those after it
+-- each is a token by the client before the text of the tokens after it
 abbrev pub AreTokensBy : Client → Bool → List Token → Type 0
 AreTokensBy client mode [] = ⊤
 AreTokensBy client mode (t ∷ ts) = IsTokenBy client mode t (text_of ts) × AreTokensBy client mode ts
@@ -73,7 +74,7 @@ pub record IsReadBy (client : Client) (mode : Bool) (text : List ℕ) (ts : List
     : Type 0 where
   -- their bytes are the text
   pub text_is : text_of ts ≡ text
-  -- each is a token where it stands
+  -- each is a token at its place in the text
   pub each : AreTokensBy client mode ts
 
 -- no block comment among the tokens holds such an opener

@@ -8,14 +8,14 @@ use Rattle.mysql_portable.specs.declared.portable.Construct.{Construct}
 use Rattle.mysql_portable.specs.declared.portable.Construct.TheVariants as construct
 use Rattle.mysql_portable.specs.declared.portable.Unportable.{Unportable}
 
--- the construct that `/*` and a special text are
+-- the construct of `/*` before a special text
 abbrev pub special_construct : List ℕ → Construct
 special_construct text =
     if begins (λ b. b == exclamation_mark) text then construct.ExecutableComment
     else if begins (λ b. b == plus) text then construct.Hint
     else construct.MariaDbComment
 
--- the construct that begins with this plain byte, before this text
+-- the construct that begins with this plain byte before this text
 abbrev pub plain_construct : ℕ → List ℕ → Construct
 plain_construct b rest =
     if b == slash then special_construct (drop 1 rest)
@@ -25,8 +25,8 @@ plain_construct b rest =
     else if b == point && begins_fraction rest then construct.DashesAfterExponent
     else construct.PlaceAfterExponent
 
--- the construct that begins with this token before this text, which is not portable or joins a
--- number; no name and no mark can be
+-- The construct that begins with this token before this text. The token isn't portable, or it joins
+-- a number. It is never a name or a mark.
 abbrev pub construct_at : Token → List ℕ → Construct
 construct_at (QuotedString quote tail) rest = construct.EscapedQuote
 construct_at (QuotedIdentifier tail) rest = construct.EscapedBackquote
@@ -37,7 +37,7 @@ construct_at (BlockComment tail) rest = special_construct tail
 construct_at (Plain b) rest = plain_construct b rest
 construct_at t rest = construct.PlaceAfterExponent
 
--- kind and position of the first construct, if the tokens begin at this position
+-- kind and position of the first construct, if the tokens begin at the position `at`
 abbrev pub first_unportable_from : ℕ → List Token → Option Unportable
 first_unportable_from at [] = None
 first_unportable_from at (t ∷ ts) =

@@ -9,19 +9,19 @@ use Rattle.mysql_portable.specs.FoundInClient.{begins_statement, begins_line, fo
 use Rattle.mysql_portable.specs.declared.portable.Construct.{Construct}
 use Rattle.mysql_portable.specs.declared.portable.Unportable.{Unportable}
 
--- a construct at this position, or else what is found later
+-- the construct at this position if there is one, or else the later one
 abbrev pub found_or : Option Construct → ℕ → Option Unportable → Option Unportable
 found_or (Some found) at later = Some (record { construct = found; at = at })
 found_or None at later = later
 
--- the construct of this token before this text: that of servers first
+-- the construct of this token before this text; a construct of servers comes first
 abbrev pub found_at : Bool → Bool → Token → List ℕ → Option Construct
 found_at statement line t rest =
     if is_read_alike t rest && not (joins_number t rest) then found_in_client statement line t rest
     else Some (construct_at t rest)
 
--- kind and position of the first construct, if the tokens begin at this position, and a statement
--- or a line may begin there
+-- Kind and position of the first construct, if the tokens begin at the position `at`. `statement`
+-- and `line` say whether a statement or a line may begin there.
 abbrev pub first_in_client_from : ℕ → Bool → Bool → List Token → Option Unportable
 first_in_client_from at statement line [] = None
 first_in_client_from at statement line (t ∷ ts) =
@@ -33,7 +33,8 @@ first_in_client_from at statement line (t ∷ ts) =
 abbrev pub first_unportable_in_client : List Token → Option Unportable
 first_unportable_in_client = first_in_client_from 0 true true
 
--- nothing is found in the tokens for the client, if a statement or a line may begin there
+-- nothing is found in the tokens for the client; the flags say whether a statement or a line may
+-- begin
 abbrev pub AreSentAsTheyAreFrom : Bool → Bool → List Token → Type 0
 AreSentAsTheyAreFrom statement line [] = ⊤
 AreSentAsTheyAreFrom statement line (t ∷ ts) =
@@ -48,7 +49,7 @@ AreSentAsTheyAre = AreSentAsTheyAreFrom true true
 pub record IsPortableInClient (ts : List Token) : Type 0 where
   -- it is portable
   pub portable : IsPortable ts
-  -- the client reads it as a server does (`client_is_a_server`)
+  -- the client reads it like a server (`client_is_a_server`)
   pub no_opener : HoldNoOpener ts
-  -- the client makes nothing else of it than to read and send it
+  -- the client only reads and sends it
   pub sent : AreSentAsTheyAre ts

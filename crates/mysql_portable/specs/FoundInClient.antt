@@ -1,7 +1,7 @@
--- What a client of Client.antt makes of a query's tokens beside reading them: commands, lines that
--- it drops, bytes that it changes or never sends. A test for each token by what stands before and
--- after it, and the construct that it finds. Source: what the clients send, by experiment
--- (docs/EVIDENCE.md); no law says that these are all.
+-- The effects that a client of Client.antt has on a query's tokens, besides reading them: commands,
+-- lines that it drops, bytes that it changes or never sends. Each token is tested with the text
+-- before and after it, and the test gives the construct that it finds. Source: the texts that the
+-- clients send, by experiment (docs/EVIDENCE.md). No law says that these are all effects.
 use Rattle.std.specs.Prelude.{ℕ, Bool, true, false, not, ◌==◌, ◌&&◌, ◌||◌, nat_le, nat_lt, ◌-◌, if◌then◌else◌, List, [], ◌∷◌, length, drop, codes, Option, Some, None}
 use Rattle.std.specs.List.{list_any}
 use Rattle.std.specs.Char.{to_ascii_lowercase}
@@ -22,18 +22,18 @@ is_comment (DashComment gap tail) = true
 is_comment (BlockComment tail) = true
 is_comment t = false
 
--- a byte with which no word begins: white space, a control byte, or a byte from 128 on, as those of
--- a UTF-8 mark at the front, which the client drops
+-- a byte with which no word begins: white space, a control byte, or a byte from 128 on, such as
+-- those of a UTF-8 mark at the front, which the client drops
 abbrev pub begins_no_word : ℕ → Bool
 begins_no_word b = nat_le b space || nat_le 128 b
 
--- after this token a statement begins, if one began before it or not: only such bytes and comments
--- stand before its first word
+-- A statement begins after this token. `before` says whether one begins before it. Only such bytes
+-- and comments come before the first word of a statement.
 abbrev pub begins_statement : Bool → Token → Bool
 begins_statement before (Plain b) = b == byte ";" || (begins_no_word b && before)
 begins_statement before t = is_comment t && before
 
--- after this token a line or a statement may begin; also after each comment, and after a `/`, which
+-- a line or a statement may begin after this token, also after each comment, and after a `/`, which
 -- may end a hint
 abbrev pub begins_line : Bool → Token → Bool
 begins_line before (Plain b) =
@@ -59,8 +59,8 @@ without_accent b =
     else if nat_lt b 222 then byte "y"
     else b
 
--- The lower-case letter for which a client takes a byte. MariaDB's compares by latin1, where a
--- small letter stands 32 after its capital: to it `syst\xEAm` is `system`.
+-- The lower-case letter for which a client takes a byte. MariaDB's client compares by latin1, where
+-- a small letter is 32 after its capital: to it `syst\xEAm` is `system`.
 abbrev pub letter_of : ℕ → ℕ
 letter_of b =
     if nat_lt b 192 then to_ascii_lowercase b
@@ -73,7 +73,8 @@ begins_word [] text = true
 begins_word (w ∷ ws) [] = false
 begins_word (w ∷ ws) (b ∷ bs) = letter_of b == w && begins_word ws bs
 
--- the text begins with nothing that would be part of a word: white space, a control byte or `;`
+-- the text is empty or begins with a byte that is no part of a word: white space, a control byte or
+-- `;`
 abbrev pub ends_word : List ℕ → Bool
 ends_word [] = true
 ends_word (b ∷ bs) = nat_le b space || b == byte ";"
@@ -82,10 +83,10 @@ ends_word (b ∷ bs) = nat_le b space || b == byte ";"
 abbrev pub begins_whole_word : List ℕ → List ℕ → Bool
 begins_whole_word word text = begins_word word text && ends_word (drop (length word) text)
 
--- This lower-case letter and then this text begin with a word that MariaDB's client runs itself:
--- `charset`, `clear`, `connect`, `costs`, `edit`, `ego`, `exit`, `go`, `help`, `nopager`, `notee`,
--- `nowarning`, `pager`, `print`, `prompt`, `quit`, `rehash`, `sandbox`, `source`, `status`,
--- `system`, `tee`, `use`, `warnings`.
+-- This lower-case letter followed by this text begins with a word that MariaDB's client runs
+-- itself: `charset`, `clear`, `connect`, `costs`, `edit`, `ego`, `exit`, `go`, `help`, `nopager`,
+-- `notee`, `nowarning`, `pager`, `print`, `prompt`, `quit`, `rehash`, `sandbox`, `source`,
+-- `status`, `system`, `tee`, `use`, `warnings`.
 abbrev pub is_word_of_mariadb : ℕ → List ℕ → Bool
 is_word_of_mariadb letter rest =
     if letter == byte "c"
@@ -119,8 +120,8 @@ is_word_of_mariadb letter rest =
     else if letter == byte "w" then begins_whole_word (codes "arnings") rest
     else false
 
--- This lower-case letter and then this text begin with a word that MySQL's client alone runs itself
--- with `--commands`: `query_attributes`, `resetconnection`, `ssl_session_data_print`.
+-- This lower-case letter followed by this text begins with a word that only MySQL's client runs
+-- itself, with `--commands`: `query_attributes`, `resetconnection`, `ssl_session_data_print`.
 abbrev pub is_word_of_mysql : ℕ → List ℕ → Bool
 is_word_of_mysql letter rest =
     if letter == byte "q" then begins_whole_word (codes "uery_attributes") rest
@@ -128,11 +129,11 @@ is_word_of_mysql letter rest =
     else if letter == byte "s" then begins_whole_word (codes "sl_session_data_print") rest
     else false
 
--- this lower-case letter and then this text begin with a word of one of the clients
+-- this lower-case letter followed by this text begins with a word of one of the clients
 unfoldable pub is_client_word : ℕ → List ℕ → Bool
 is_client_word letter rest = is_word_of_mariadb letter rest || is_word_of_mysql letter rest
 
--- a byte that a client joins to what stands before a comment: from 128 on, or a backslash
+-- a byte that a client joins to the bytes before a comment: from 128 on, or a backslash
 abbrev pub is_joined : ℕ → Bool
 is_joined b = nat_le 128 b || b == byte "\\"
 
@@ -141,15 +142,15 @@ abbrev pub closes_before_joined : List ℕ → Bool
 closes_before_joined [] = false
 closes_before_joined (b ∷ bs) = b == slash && begins is_joined bs
 
--- after a plain `-`, by which a statement begins: another, also before a newline, since then the
--- client takes both for a comment and begins the statement after it; or a place, whose value may
--- begin with one
+-- After a plain `-` with which a statement begins: another `-`, or a place, whose value may begin
+-- with one. Even before a newline the client takes two dashes for a comment, and begins the
+-- statement after it.
 abbrev pub drops_line : List ℕ → Bool
 drops_line [] = false
 drops_line (b ∷ bs) =
     begins_place (b ∷ bs) || b == dash
 
--- two dashes, and then white space or the end
+-- two dashes, followed by white space or the end
 abbrev pub begins_comment_dashes : List ℕ → Bool
 begins_comment_dashes [] = false
 begins_comment_dashes (a ∷ []) = false
@@ -173,7 +174,7 @@ abbrev pub ends_line : List ℕ → Bool
 ends_line [] = false
 ends_line (b ∷ bs) = b == newline || (b == carriage_return && begins (λ c. c == newline) bs)
 
--- a backslash stands in the text at the end of a line
+-- a backslash is at the end of a line of the text
 abbrev pub escapes_newline : List ℕ → Bool
 escapes_newline [] = false
 escapes_newline (b ∷ bs) = (b == byte "\\" && ends_line bs) || escapes_newline bs
@@ -187,7 +188,7 @@ begins_delimiter_line (b ∷ bs) =
 -- ---- what is found
 
 -- In a text in quotes or backquotes. The client drops the newline at the end of a line that begins
--- with `delimiter`, also if the word stands in quotes that end on that line.
+-- with `delimiter`, even if the word is in quotes that end on that line.
 abbrev pub found_in_quotes : List ℕ → Option Construct
 found_in_quotes tail =
     if escapes_newline tail then Some construct.EscapedNewline
@@ -202,8 +203,8 @@ found_in_comment tail rest =
     else if begins_special tail && begins_delimiter_line tail then Some construct.Delimiter
     else None
 
--- at a word of which this is the first letter, in lower case; the flags say whether a statement or
--- a line may begin there
+-- at a word with this first letter, in lower case; the flags say whether a statement or a line may
+-- begin there
 abbrev pub found_word : Bool → Bool → ℕ → List ℕ → Option Construct
 found_word statement line letter rest =
     if line && (letter == byte "d" && begins_word (codes "elimiter") rest)

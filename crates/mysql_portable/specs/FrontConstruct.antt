@@ -18,7 +18,7 @@ block_construct (b ∷ bs) =
     then Some (special_construct bs)
     else None
 
--- the construct with which the token of so many bytes at the front of the text begins
+-- the construct with which the token of `len` bytes at the front of the text begins
 abbrev pub front_construct : List ℕ → ℕ → Option Construct
 front_construct [] len = None
 front_construct (b ∷ bs) len =

@@ -1,7 +1,7 @@
 -- MySQL and MariaDB as servers of Server.antt, as far as their manuals say how a text is read. Each
--- has a version number, as 90700 and 101100 (9.7.0 and 10.11.0). The sources:
+-- has a version number, such as 90700 and 101100 (9.7.0 and 10.11.0). The sources:
 --   `/*!`           MySQL Reference Manual 9, "Comments"; MariaDB Knowledge Base, "Comment Syntax",
---                   by which MariaDB skips the versions 50700 to 99999, as MySQL's alone
+--                   by which MariaDB skips the versions 50700 to 99999, as only MySQL's
 --   `/*M!`          MariaDB Knowledge Base, "Comment Syntax"; to MySQL it is a comment
 --   `/*+`           MySQL Reference Manual 9, "Optimizer Hints"
 --   `--`            MySQL Reference Manual 9, "'--' as the Start of a Comment": before white space
@@ -9,12 +9,12 @@
 --   `$$`, `$tag$`   MySQL Reference Manual 9, "JavaScript Stored Programs"
 --   `"`             MySQL Reference Manual 9, "Server SQL Modes" (no ANSI_QUOTES unless asked for)
 --   `[`             MariaDB Knowledge Base, "SQL_MODE" (no MSSQL unless asked for)
--- MySQL takes `/*+` for a hint after some words, and MariaDB does from version 12 on; elsewhere it
--- is a comment. Here it is one everywhere, since a hint ends at the same `*/`. `$$` opens a text
--- here even within a name, where MySQL goes on with the name. What is skipped ends at its first
--- `*/`: the manuals advise against a comment in a comment. A version may begin with 0 here, of
--- which MySQL takes five digits. Where the manuals say nothing, as of `1.e--`, both read as the
--- grammar does.
+-- MySQL takes `/*+` for a hint after some words, and so does MariaDB from version 12 on; elsewhere
+-- it is a comment. Here it is a comment everywhere, since a hint ends at the same `*/`. `$$` opens
+-- a text here even within a name, where MySQL continues the name. A skipped text ends at its first
+-- `*/`; the manuals advise against a comment in a comment. A version may begin with 0 here; MySQL
+-- takes five digits of it. Where the manuals say nothing, such as about `1.e--`, both servers read
+-- like the grammar.
 use Rattle.std.specs.Prelude.{ℕ, ◌+◌, Bool, false, not, ◌==◌, ◌&&◌, ◌||◌, nat_le, if◌then◌else◌, List, [], ◌∷◌, ◌++◌, length, take, drop, Option, Some, None}
 use Rattle.std.specs.Char.{is_ascii_digit}
 use Rattle.std.specs.List.{take_while}
@@ -26,13 +26,13 @@ use Rattle.mysql_named_params.specs.TokensOf.{len_up_to}
 use Rattle.mysql_portable.specs.ServerTokens.{Server, Block, executed, comment, is_tag_byte, IsReadOn}
 use Rattle.mysql_portable.specs.Quiet.{plain_then}
 
--- the version number at the front of a text, of five or six digits; 0 if none stands there
+-- the version number at the front of a text, of five or six digits; 0 if there is none
 abbrev pub version_of : List ℕ → ℕ
 version_of text =
     let digits = take_while is_ascii_digit (take 6 text) in
     if nat_le 5 (length digits) then digits_value 10 digits else 0
 
--- what a server of the second version makes of a text for servers from the first on
+-- how a server of the second version reads a text for servers from the first version on
 abbrev pub from_version : ℕ → ℕ → Block
 from_version first version = if nat_le first version then executed else comment
 
@@ -40,8 +40,8 @@ from_version first version = if nat_le first version then executed else comment
 abbrev pub is_gap : ℕ → Bool
 is_gap b = nat_le b space || b == 127
 
--- after `$` and these bytes of a tag: the number of bytes up to and with the next `$tag$`, or else
--- to the end; none if no `$` ends the tag
+-- After `$` and these bytes of a tag: the number of bytes up to the next `$tag$`, with it, or else
+-- to the end. `None` if no `$` ends the tag.
 abbrev pub dollar_quoted : List ℕ → List ℕ → Option ℕ
 dollar_quoted tag [] = None
 dollar_quoted tag (b ∷ bs) =
@@ -49,7 +49,7 @@ dollar_quoted tag (b ∷ bs) =
     else if is_tag_byte b then dollar_quoted (tag ++ b ∷ []) bs
     else None
 
--- what MySQL of a version makes of `/*` and the text after it
+-- how MySQL of a version reads `/*` and the text after it
 abbrev pub mysql_special : ℕ → List ℕ → Block
 mysql_special version [] = comment
 mysql_special version (b ∷ text) =
@@ -66,11 +66,11 @@ mysql version = record {
   ansi_quotes = false;
 }
 
--- a version that MariaDB takes for one of MySQL alone, after `/*!`
+-- a version after `/*!` that MariaDB takes for one that only MySQL has
 abbrev pub is_of_mysql : ℕ → Bool
 is_of_mysql version = nat_le 50700 version && nat_le version 99999
 
--- what MariaDB of a version makes of `/*` and the text after it
+-- how MariaDB of a version reads `/*` and the text after it
 abbrev pub mariadb_special : ℕ → List ℕ → Block
 mariadb_special version [] = comment
 mariadb_special version (b ∷ text) =

@@ -18,7 +18,7 @@ begins_no_construct b =
 abbrev pub is_of_exponent : ℕ → Bool
 is_of_exponent b = (b == byte "e" || b == byte "E") || (b == plus || b == dash)
 
--- none of the bytes up to this index stands directly before an exponent and a place
+-- none of the bytes up to this index is directly before an exponent and a place
 abbrev pub StandBeforeNoExponent : List ℕ → ℕ → Type 0
 StandBeforeNoExponent text end =
     (k : ℕ) → k < end → begins_exponent (drop (k + 1) text) ≡ false

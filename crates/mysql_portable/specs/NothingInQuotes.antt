@@ -1,4 +1,4 @@
--- Bytes with which nothing that a client finds begins in quotes. For private functions of
+-- Bytes with which nothing begins that a client finds in quotes. For private functions of
 -- `nothing_in_quotes.rt` and `client.rt`; no public contract cites it.
 use Rattle.std.specs.Prelude.{◌≡◌, ◌<◌, ℕ, Bool, true, not, ◌||◌, ◌==◌, List}
 use Rattle.std.specs.Str.{byte}
@@ -13,8 +13,8 @@ opens_text b = is_string_quote b || b == backquote
 abbrev pub begins_nothing_in_quotes : ℕ → Bool
 begins_nothing_in_quotes b = not (b == 0 || b == newline || b == byte "\\")
 
--- the token of this length at the front of the text is one in quotes or backquotes whose bytes
--- begin nothing there
+-- the token of this length at the front of the text is in quotes or backquotes, and none of its
+-- bytes begins anything there
 abbrev pub HoldsNothingInQuotes : List ℕ → ℕ → Type 0
 HoldsNothingInQuotes text len =
     (begins opens_text text ≡ true) × (1 < len) × EachPasses begins_nothing_in_quotes text 0 len

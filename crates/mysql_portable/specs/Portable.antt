@@ -1,6 +1,6 @@
--- Portable queries: those that every honest server reads as the grammar does (by the laws
--- `portable_reading` and `portable_is_sharp`). Besides, as a condition of its own, no place stands
--- directly after the sign of a number's exponent, since a value's digits would join the number.
+-- Portable queries: every honest server reads them like the grammar (the laws `portable_reading`
+-- and `portable_is_sharp`). As a further condition, no place is directly after the sign of a
+-- number's exponent, since a value's digits would join the number.
 use Rattle.std.specs.Prelude.{ℕ, IsTrue, IsFalse, Bool, true, false, not, ◌==◌, ◌&&◌, ◌||◌, List, [], ◌∷◌, ◌++◌, ⊤}
 use Rattle.std.specs.Char.{is_ascii_digit}
 use Rattle.std.specs.Str.{byte}
@@ -9,13 +9,13 @@ use Rattle.mysql_named_params.specs.Tokens.{Token, text_of, text_then, QuotedStr
 use Rattle.mysql_portable.specs.ServerTokens.{keeps_dashes, begins_special, begins_own, begins_place, holds_return, escapes_backquote}
 use Rattle.mysql_portable.specs.Quiet.{IsQuietComment, is_quiet, begins_quiet, plain_then}
 
--- the byte stands before the last one
+-- the byte is among the bytes before the last one
 abbrev pub stands_inside : ℕ → List ℕ → Bool
 stands_inside q [] = false
 stands_inside q (b ∷ []) = false
 stands_inside q (b ∷ c ∷ bs) = b == q || stands_inside q (c ∷ bs)
 
--- after a `-`: another, and a byte before which some servers alone open a comment
+-- after a `-`: another one, and a byte before which only some servers open a comment
 abbrev pub may_open_line : List ℕ → Bool
 may_open_line [] = false
 may_open_line (b ∷ []) = false
@@ -28,8 +28,8 @@ differs_at b rest =
     (b == slash && begins (λ c. c == asterisk) rest)
     || ((b == dash && may_open_line rest) || begins_own b rest)
 
--- every honest server ends this token, before this text, at the index at which the grammar ends it;
--- or it is a quiet comment, or its `/` begins one
+-- Every honest server ends this token, before this text, at the index at which the grammar ends it.
+-- Or it is a quiet comment, or its `/` begins one.
 abbrev pub is_read_alike : Token → List ℕ → Bool
 is_read_alike (QuotedString quote tail) rest =
     not (quote == double_quote && stands_inside quote tail)
@@ -57,42 +57,42 @@ begins_exponent (e ∷ []) = false
 begins_exponent (e ∷ sign ∷ bs) =
     (e == byte "e" || e == byte "E") && ((sign == plus || sign == dash) && begins_place bs)
 
--- A digit or a point before such a text: `1e+?`, `1.5E-:a`. It is more than is needed: the digit of
--- `x1e+?` and the point of `t.e+?` belong to no number.
+-- A digit or a point before such a text, such as in `1e+?` or `1.5E-:a`. The test finds more than
+-- needed: the digit of `x1e+?` and the point of `t.e+?` belong to no number.
 abbrev pub joins_number : Token → List ℕ → Bool
 joins_number (Plain b) rest = (is_ascii_digit b || b == point) && begins_exponent rest
 joins_number t rest = false
 
--- no place stands directly after an exponent's sign, if a rest follows the tokens
+-- no place is directly after an exponent's sign, if `rest` follows the tokens
 abbrev pub JoinNoNumberBefore : List ℕ → List Token → Type 0
 JoinNoNumberBefore rest [] = ⊤
 JoinNoNumberBefore rest (t ∷ ts) =
     IsFalse (joins_number t (text_then rest ts)) × JoinNoNumberBefore rest ts
 
--- no place of a query stands directly after an exponent's sign
+-- no place of a query is directly after an exponent's sign
 abbrev pub JoinNoNumber : List Token → Type 0
 JoinNoNumber = JoinNoNumberBefore []
 
 -- the query of these tokens is portable
 pub record IsPortable (ts : List Token) : Type 0 where
-  -- every honest server reads it as the grammar does
+  -- every honest server reads it like the grammar
   pub alike : AreReadAlike ts
   -- no value's digits join a number of the query
   pub apart : JoinNoNumber ts
 
--- The tokens of the grammar, and those of an honest server: `--` before a newline may be one
--- comment, and a quiet comment may be one comment or plain bytes in either.
+-- The tokens of the grammar, and those of an honest server. On the server, `--` before a newline
+-- may be one comment. A quiet comment may be one comment or plain bytes in either.
 pub data IsReadAs : List Token → List Token → Type 0 where
   read_all : IsReadAs [] []
   read_same : {t : Token} {ts us : List Token} → IsReadAs ts us →
       IsReadAs (t ∷ ts) (t ∷ us)
   read_empty_comment : {ts us : List Token} → IsReadAs ts us →
       IsReadAs (Plain dash ∷ Plain dash ∷ Plain newline ∷ ts) (DashComment newline [] ∷ us)
-  -- the server skips what the grammar reads
+  -- the server skips a comment that the grammar reads
   read_skipped : {ts us : List Token} (tail : List ℕ) → IsQuietComment tail (text_of ts) →
       IsReadAs ts us →
       IsReadAs (Plain slash ∷ Plain asterisk ∷ plain_then ts tail) (BlockComment tail ∷ us)
-  -- the server reads what the grammar skips
+  -- the server reads a comment that the grammar skips
   read_executed : {ts us : List Token} (tail : List ℕ) → IsQuietComment tail (text_of ts) →
       IsReadAs ts us →
       IsReadAs (BlockComment tail ∷ ts) (Plain slash ∷ Plain asterisk ∷ plain_then us tail)

@@ -1,6 +1,6 @@
--- A server, by the points in which servers read queries otherwise than the grammar of Tokens.antt,
--- and the tokens of a query on it. A server is data without laws: each point is asked only if
--- servers may differ there, so every record is a server, even one that no one has built. The
+-- A server, by the points in which servers read queries differently from the grammar of
+-- Tokens.antt, and the tokens of a query on it. A server is data without laws: each point is used
+-- only where servers may differ, so every record is a server, even one that no one has built. The
 -- points:
 --   `/*!`, `/*+`    MySQL Reference Manual, "Comments" and "Optimizer Hints"
 --   `/*M!`          MariaDB Knowledge Base, "Comment Syntax"
@@ -12,26 +12,26 @@
 --   `1.e--`         MySQL Reference Manual, "Numeric Literals" (an exponent has digits)
 --   CR, `--`, `\`   the ends of comments and identifiers to MariaDB's InnoDB, which reads an
 --                   `ALTER TABLE` again (MariaDB 10.11, `storage/innobase/dict/dict0dict.cc`): a
---                   carriage return ends a comment of one line, `--` begins one before a space
---                   alone, and a backslash escapes in backquotes
--- A point is asked of the text after the construct. MySQL asks what stands before it too: `/*+` is
--- a hint after some words alone, and `$$` within a name opens nothing. So MySQL is one of these
--- servers for each text, since no two places of a text have the same text after them, and none of
--- them for all texts. InnoDB is one of them with backslash escapes, up to a byte 0, where it stops.
--- No server here has these readings: `;` and white space at the end of a text are cut off before it
--- is read, so that `--` before them opens a comment (MySQL and MariaDB; no value stands in it);
--- `/*T! .. */` is executed (TiDB). And MySQL and MariaDB refuse each text in which one of them
--- reads a quote, `#` or a byte of `/*` or `*/` as a plain byte: after `1.e`, after a backslash
--- outside of quotes, after `@@`.
+--                   carriage return ends a comment of one line, `--` begins one only before a
+--                   space, and a backslash escapes in backquotes
+-- A point depends only on the text after the construct. MySQL also looks at the text before it:
+-- `/*+` is a hint only after some words, and `$$` within a name opens nothing. So for each text
+-- MySQL is one of these servers, since no two places of a text have the same text after them. But
+-- none of them is MySQL for all texts. InnoDB is one of them with backslash escapes, up to a byte
+-- 0, where it stops. No server here has the following readings. MySQL and MariaDB cut off `;` and
+-- white space at the end of a text before they read it, so that `--` before them opens a comment;
+-- no value is in this comment. TiDB executes `/*T! .. */`. And MySQL and MariaDB refuse each text
+-- in which one of them reads a quote, `#` or a byte of `/*` or `*/` as a plain byte: after `1.e`,
+-- after a backslash outside of quotes, after `@@`.
 use Rattle.std.specs.Prelude.{◌≡◌, ◌≢◌, ℕ, IsTrue, IsFalse, Bool, false, not, ◌==◌, ◌&&◌, ◌||◌, nat_le, if◌then◌else◌, List, [], ◌∷◌, ◌++◌, take, Option, Some, None, ⊤}
 use Rattle.std.specs.Char.{is_ascii_digit}
 use Rattle.std.specs.Str.{byte}
 use Rattle.mysql_named_params.specs.Bytes.{asterisk, backquote, carriage_return, colon, dash, double_quote, exclamation_mark, newline, plus, question_mark, slash, space, is_name_byte, is_start_byte, is_string_quote, is_extension, begins, IsUpTo, bracket, dollar, point}
 use Rattle.mysql_named_params.specs.Tokens.{Token, bytes_of, text_of, IsStringTail, IsName, QuotedString, QuotedIdentifier, HashComment, DashComment, BlockComment, Name, Mark, Plain}
 
--- Before this byte `--` is two plain bytes on each server: printable ASCII except the space and
--- `/`. A comment that the `/` begins may be left out before the text is read again, and then `--`
--- stands before what follows it: `5 --/*!99999 x*/ 'a'`.
+-- Before this byte `--` is two plain bytes on every server: printable ASCII except the space and
+-- `/`. A server may leave out the comment that the `/` begins, and read the text again. Then `--`
+-- is before the text after the comment, as in `5 --/*!99999 x*/ 'a'`.
 abbrev pub keeps_dashes : ℕ → Bool
 keeps_dashes b = nat_le 33 b && (nat_le b 126 && not (b == slash))
 
@@ -56,7 +56,7 @@ begins_tag [] = false
 begins_tag (b ∷ bs) =
     b == dollar || (begins_place (b ∷ bs) || (is_tag_byte b && begins_tag bs))
 
--- two dashes before a byte that does not keep them plain
+-- two dashes before a byte that doesn't keep them plain
 abbrev pub begins_dashes : List ℕ → Bool
 begins_dashes [] = false
 begins_dashes (a ∷ []) = false
@@ -77,53 +77,53 @@ begins_fraction (b ∷ bs) =
     || ((is_ascii_digit b && begins_fraction bs)
     || ((b == byte "e" || b == byte "E") && begins_exponent_dashes bs))
 
--- Some server may read a text of its own from this byte on, which opens nothing in the grammar:
--- `[` an identifier, `$$` and `$tag$` a string; and of a number with `.e--` MySQL's lexer takes the
--- first dash for the exponent's sign, so that the second opens no comment. No server is known that
--- takes one byte more after a sign, in `.e+--` or `.e---`; they are held apart to be safe.
+-- Some server may read a text of its own from this byte on, which opens nothing in the grammar. `[`
+-- opens an identifier, and `$$` and `$tag$` a string. In a number with `.e--`, MySQL's lexer takes
+-- the first dash for the exponent's sign, so the second opens no comment. No known server takes one
+-- byte more after a sign, in `.e+--` or `.e---`; these two are included to be safe.
 abbrev pub begins_own : ℕ → List ℕ → Bool
 begins_own b bs =
     b == bracket || ((b == dollar && begins_tag bs) || (b == point && begins_fraction bs))
 
--- in the text, up to its first newline, a carriage return that doesn't stand directly before that
+-- up to its first newline, the text has a carriage return that isn't directly before the newline
 abbrev pub holds_return : List ℕ → Bool
 holds_return [] = false
 holds_return (b ∷ bs) =
     not (b == newline)
     && ((b == carriage_return && not (begins (λ c. c == newline) bs)) || holds_return bs)
 
--- a backslash directly before the first backquote of the text
+-- a backslash is directly before the first backquote of the text
 abbrev pub escapes_backquote : List ℕ → Bool
 escapes_backquote [] = false
 escapes_backquote (b ∷ bs) =
     not (b == backquote)
     && ((b == byte "\\" && begins (λ c. c == backquote) bs) || escapes_backquote bs)
 
--- what a server makes of `/*` and the text after it
+-- how a server reads `/*` and the text after it
 pub data Block : Type 0 where
-  -- the `/` is a plain byte, and what follows is read
+  -- the `/` is a plain byte, and the text after it is read
   executed : Block
   -- a comment up to `*/`
   comment : Block
-  -- a comment of so many bytes after `/*`: nested, or skipped by a version
+  -- a comment of this many bytes after `/*`: nested, or skipped by a version
   comment_of : ℕ → Block
 
 -- a server
 pub record Server : Type 0 where
-  -- what it makes of `/*` and the text after it; asked if that begins with `!`, `+` or `M!`
+  -- how it reads `/*` and the text after it; used only if the text begins with `!`, `+` or `M!`
   pub special : List ℕ → Block
-  -- the number of bytes after this byte that belong to it, a closing quote among them; none: it is
-  -- a plain byte; asked if `begins_own`
+  -- The number of bytes after this byte that belong to its token, a closing quote among them.
+  -- `None`: it is a plain byte. Used only if `begins_own`.
   pub quotes : ℕ → List ℕ → Option ℕ
-  -- the bytes before which `--` opens a comment, beside the space, before which it always does;
-  -- asked for the newline, with which the comment is empty, and for bytes that do not keep dashes
-  -- plain
+  -- The bytes before which `--` opens a comment, besides the space, before which it always does.
+  -- Used only for the newline, with which the comment is empty, and for bytes that don't keep
+  -- dashes plain.
   pub also_opens : ℕ → Bool
-  -- the number of bytes that belong to a comment of one line, after `#` or after `--` and a byte;
-  -- none: those up to the newline; asked if `holds_return`
+  -- The number of bytes that belong to a comment of one line, after `#` or after `--` and a byte.
+  -- `None`: those up to the newline. Used only if `holds_return`.
   pub lines : List ℕ → Option ℕ
-  -- the number of bytes after a backquote that belong to the identifier; none: those up to the next
-  -- backquote; asked if `escapes_backquote`
+  -- The number of bytes after a backquote that belong to the identifier. `None`: those up to the
+  -- next backquote. Used only if `escapes_backquote`.
   pub identifiers : List ℕ → Option ℕ
   -- whether `"` opens an identifier, in which nothing escapes
   pub ansi_quotes : Bool
@@ -132,54 +132,55 @@ pub record Server : Type 0 where
 abbrev pub opens_line : Server → ℕ → Bool
 opens_line server b = b == space || (not (keeps_dashes b) && server.also_opens b)
 
--- the number of bytes of a comment of one line on the server, if it isn't up to the newline
+-- the number of bytes of a comment of one line on the server, if it doesn't end at the newline
 abbrev pub line_on : Server → List ℕ → Option ℕ
 line_on server text = if holds_return text then server.lines text else None
 
--- the number of bytes of an identifier on the server, if it isn't up to the next backquote
+-- the number of bytes of an identifier on the server, if it doesn't end at the next backquote
 abbrev pub identifier_on : Server → List ℕ → Option ℕ
 identifier_on server text = if escapes_backquote text then server.identifiers text else None
 
--- the mode in which a text in these quotes is read: that of strings, or without escapes
+-- the mode in which a text in these quotes is read: that of strings, or the one without escapes
 abbrev pub reads_in : Server → Bool → ℕ → Bool
 reads_in server mode quote = mode || (server.ansi_quotes && quote == double_quote)
 
--- what the server makes of `/*` and the text after it
+-- how the server reads `/*` and the text after it
 abbrev pub block_on : Server → List ℕ → Block
 block_on server text = if begins_special text then server.special text else comment
 
--- what follows `/*` in a comment, before a rest
+-- the bytes after `/*` in a comment, before a rest
 pub data IsBlockTail (server : Server) (tail rest : List ℕ) : Type 0 where
   -- up to `*/`
   usual_block : block_on server (tail ++ rest) ≡ comment →
       IsUpTo (asterisk ∷ slash ∷ []) tail rest → IsBlockTail server tail rest
-  -- as the server has it
+  -- up to the server's own end
   own_block : (n : ℕ) → block_on server (tail ++ rest) ≡ comment_of n →
       take n (tail ++ rest) ≡ tail → IsBlockTail server tail rest
 
--- what follows the sign that opens a token, before a rest, by the number that the server may have
+-- the bytes after the sign that opens a token, before a rest; `own` is the server's own number of
+-- them
 pub data IsTailBy (own : Option ℕ) (end : ℕ) (tail rest : List ℕ) : Type 0 where
-  -- up to the end of the grammar
+  -- up to the grammar's end
   usual_end : own ≡ None → IsUpTo (end ∷ []) tail rest → IsTailBy own end tail rest
-  -- as the server has it
+  -- up to the server's own end
   own_end : (n : ℕ) → own ≡ Some n → take n (tail ++ rest) ≡ tail → IsTailBy own end tail rest
 
--- what follows `--` and this byte in a comment, before a rest
+-- the bytes after `--` and this byte in a comment, before a rest
 pub data IsDashTail (server : Server) (gap : ℕ) (tail rest : List ℕ) : Type 0 where
-  -- nothing, since the byte is a newline
+  -- none, since the byte is a newline
   ended_tail : gap ≡ newline → tail ≡ [] → IsDashTail server gap tail rest
-  -- what follows in a comment of one line
+  -- those of a comment of one line
   open_tail : gap ≢ newline → IsTailBy (line_on server (tail ++ rest)) newline tail rest →
       IsDashTail server gap tail rest
 
--- what follows this byte, which opens a text in quotes, before a rest
+-- the bytes after this byte, which opens a text in quotes, before a rest
 pub data IsQuotedTail (server : Server) (mode : Bool) (quote : ℕ) (tail rest : List ℕ)
     : Type 0 where
   -- in the quotes of the grammar
   usual_quotes : IsTrue (is_string_quote quote) →
       IsStringTail (reads_in server mode quote) quote tail rest →
       IsQuotedTail server mode quote tail rest
-  -- in the server's own
+  -- in the server's own quotes
   own_quotes : (n : ℕ) → IsTrue (begins_own quote (tail ++ rest)) →
       server.quotes quote (tail ++ rest) ≡ Some n → take n (tail ++ rest) ≡ tail →
       IsQuotedTail server mode quote tail rest
@@ -198,14 +199,15 @@ IsNotPlainOn server mode (Name name) rest = IsName name × IsFalse (begins is_na
 IsNotPlainOn server mode Mark rest = ⊤
 IsNotPlainOn server mode (Plain b) rest = ⊥
 
--- a token on the server before a rest: a plain byte is one with which no other token begins there
+-- a token on the server before a rest; a byte is a plain token if no other token begins with it
+-- there
 abbrev pub IsTokenOn : Server → Bool → Token → List ℕ → Type 0
 IsTokenOn server mode (Plain b) rest =
     (t : Token) (after : List ℕ) → IsNotPlainOn server mode t after →
     bytes_of t ++ after ≢ b ∷ rest
 IsTokenOn server mode t rest = IsNotPlainOn server mode t rest
 
--- each is a token on the server before the text of those after it
+-- each is a token on the server before the text of the tokens after it
 abbrev pub AreTokensOn : Server → Bool → List Token → Type 0
 AreTokensOn server mode [] = ⊤
 AreTokensOn server mode (t ∷ ts) = IsTokenOn server mode t (text_of ts) × AreTokensOn server mode ts
@@ -215,5 +217,5 @@ pub record IsReadOn (server : Server) (mode : Bool) (query : List ℕ) (ts : Lis
     : Type 0 where
   -- their bytes are the query
   pub text : text_of ts ≡ query
-  -- each is a token where it stands
+  -- each is a token at its place in the query
   pub each : AreTokensOn server mode ts

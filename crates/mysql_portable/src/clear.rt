@@ -1,6 +1,5 @@
-//! A quick test for queries that are steady and portable: it looks at 16 bytes at once, and closer
-//! only at those that may begin or end a construct. It is lent to the crates above; no user needs
-//! it.
+//! A quick test for queries that are steady and portable. It looks at 16 bytes at once, and closer
+//! only at bytes that may begin or end a construct. For the crates above; no user needs it.
 ghost use Rattle.std.specs.Prelude.{◌≡◌, ◌==◌, ◌+◌, ◌<◌, ◌≤◌, Bool, false, true, length, take, drop, map, slice_index, IsTrue, IsFalse};
 ghost use Rattle.std.specs.Simd.Lanes.{mask_l};
 ghost use Rattle.mysql_named_params.specs.Bytes.{begins, dash, newline, space};
@@ -24,9 +23,10 @@ pub fn is_clear(text: &[u8]) -> bool
     is_clear_for(text, false)
 }
 
-/// Whether no byte of the query is in doubt, also in a client. Such a query is steady and portable
-/// on servers and in the clients `mysql` and `mariadb`, by wide names too. Most that are so pass; a
-/// query that begins with a comment doesn't, nor one with a comment behind a `;`.
+/// Whether no byte of the query is in doubt, on servers or in a client. Such a query is steady. It
+/// is also portable on servers and in the clients `mysql` and `mariadb`, with wide names too. Most
+/// queries that are steady and portable pass the test. A query that begins with a comment doesn't,
+/// nor does one with a comment after a `;`.
 pub fn is_clear_in_client(query: &[u8]) -> bool
     ensures value { result ≡ is_clear_in_client query.now }
     ensures steady { IsTrue result → IsSteady query.now }
@@ -38,8 +38,8 @@ pub fn is_clear_in_client(query: &[u8]) -> bool
     !begins_client_line(query) && is_clear_for(query, true)
 }
 
-// Whether no byte of the text is in doubt on servers, nor in a client if the flag says so. Inline,
-// so that each flag has a loop of its own.
+// Whether no byte of the text is in doubt on servers, nor in a client if `client` is true. It is
+// inlined, so that each value of `client` has a loop of its own.
 #[inline(always)]
 fn is_clear_for(text: &[u8], client: bool) -> bool
     ensures { result ≡ is_clear_after client space text.now }
@@ -55,9 +55,9 @@ fn is_clear_for(text: &[u8], client: bool) -> bool
     !is_doubt_within(text, at, client)
 }
 
-// Whether one of the 16 bytes from this one on is in doubt. Each bit of a mask is looked at once,
-// so that bytes that may be in doubt and stand close together cost no further comparison. Inline,
-// as the body of a loop.
+// Whether one of the 16 bytes from the index `from` on is in doubt. Each bit of a mask is read
+// once, so bytes that may be in doubt and are close together cost no further comparison. It is
+// inlined, since it is the body of a loop.
 #[inline(always)]
 fn is_doubt_in_block(text: &[u8], from: usize, client: bool) -> bool
     requires { from + LANES ≤ length text.now }
@@ -79,8 +79,8 @@ fn is_doubt_in_block(text: &[u8], from: usize, client: bool) -> bool
     false
 }
 
-// One bit for each of the 16 bytes from this one on, the first byte's lowest: whether it may be in
-// doubt.
+// One bit for each of the 16 bytes from the index `at` on: whether the byte may be in doubt. The
+// lowest bit is that of the first byte.
 #[inline(always)]
 fn doubt_mask(text: &[u8], at: usize, client: bool) -> u64
     requires { at + LANES ≤ length text.now }
@@ -126,7 +126,7 @@ fn is_doubt_within(text: &[u8], from: usize, client: bool) -> bool
     false
 }
 
-// The byte before this index, and a space before the first.
+// The byte before this index, or a space if the index is 0.
 fn byte_before(text: &[u8], at: usize) -> u8
     requires { at ≤ length text.now }
     ensures { result ≡ byte_before text.now at }
@@ -134,7 +134,7 @@ fn byte_before(text: &[u8], at: usize) -> u8
     if at == 0 { b' ' } else { text[at - 1] }
 }
 
-// Whether the byte, after the one before and before this rest, isn't steady, or may begin or end a
+// Whether the byte, between the byte before it and this rest, isn't steady, or may begin or end a
 // construct.
 fn is_in_doubt(before: u8, byte: u8, rest: &[u8]) -> bool
     ensures { result ≡ is_in_doubt before byte rest.now }
@@ -175,7 +175,7 @@ fn may_begin_tag(byte: u8) -> bool
     byte == b'$' || byte == b'?' || byte == b':' || is_tag_byte(byte)
 }
 
-// Whether a `/` and then this text make a comment that may be executed, or a hint.
+// Whether a `/` followed by this text is a comment that may be executed, or a hint.
 fn begins_special_block(text: &[u8]) -> bool
     ensures { result ≡ begins_special_block text.now }
 {
@@ -223,7 +223,8 @@ fn begins_wide_name(text: &[u8]) -> bool
     }
 }
 
-// Whether the byte before this rest may begin a construct of a client, or a statement that does.
+// Whether the byte, before this rest, may begin a construct of a client, or is a `;` before a
+// statement that may begin with one.
 fn is_in_doubt_in_client(byte: u8, rest: &[u8]) -> bool
     ensures { result ≡ is_in_doubt_in_client byte rest.now }
 {
@@ -237,15 +238,15 @@ fn is_in_doubt_in_client(byte: u8, rest: &[u8]) -> bool
     }
 }
 
-// Whether a `/` and then this text begin with `/*!`, `/*+` or `/*/`.
+// Whether a `/` followed by this text begins with `/*!`, `/*+` or `/*/`.
 fn begins_opener_after(rest: &[u8]) -> bool
     ensures { result ≡ begins_opener_after rest.now }
 {
     matches!(rest, [b'*', b'!' | b'+' | b'/', ..])
 }
 
-// Whether the text begins, after white space, with what may be a comment or a line that a client
-// drops, or with a word of a client.
+// Whether the text begins, after white space, with a word of a client, or with bytes that may be a
+// comment or a line that a client drops.
 fn begins_client_line(text: &[u8]) -> bool
     ensures { result ≡ begins_client_line text.now }
 {
@@ -259,22 +260,22 @@ fn begins_client_line(text: &[u8]) -> bool
     false
 }
 
-// Whether the byte may be in doubt on servers, or else in a client.
+// Whether the byte may be in doubt on servers, or in a client if `client` is true.
 fn may_be_in_doubt(byte: u8, client: bool) -> bool
     ensures { result ≡ may_be_in_doubt client byte }
 {
     !is_never_in_doubt(byte) || client && is_of_client(byte)
 }
 
-// Whether a construct of a client may begin with the byte, or a statement.
+// Whether a construct of a client or a statement may begin with the byte.
 fn is_of_client(byte: u8) -> bool
     ensures { result ≡ is_of_client byte }
 {
     byte == 0 || byte == b';' || byte == b'd' || byte == b'D'
 }
 
-// Whether the byte is never in doubt on servers: no construct and no place begins with it, it ends
-// no comment, and it is steady.
+// Whether the byte is never in doubt on servers: it is steady, no construct and no place begins
+// with it, and it ends no comment.
 fn is_never_in_doubt(byte: u8) -> bool
     ensures { result ≡ is_never_in_doubt byte }
 {

@@ -1,5 +1,5 @@
-//! The first construct of a query for which it isn't portable on servers, or for which the client
-//! `mysql` or `mariadb` sends something else than the query.
+//! The first construct for which a query isn't portable on servers, or for which the client `mysql`
+//! or `mariadb` sends something other than the query.
 ghost use Rattle.std.specs.Prelude.{◌≡◌, ◌↔◌, ◌≤◌, ◌<◌, false, length, None, IsTrue};
 ghost use Rattle.mysql_named_params.specs.Tokens.{OnTokens};
 ghost use Rattle.mysql_named_params.specs.Lanes.{EachPasses};
@@ -30,7 +30,7 @@ fn begins_no_word(byte: u8) -> bool
     byte <= b' ' || 128 <= byte
 }
 
-// Whether a statement begins after this token, if the flag says so of the place before it.
+// Whether a statement begins after this token. `before` says whether one begins before it.
 fn statement_after(before: bool, token: &[u8]) -> bool
     ensures { result ≡ statement_after before token.now }
 {
@@ -67,7 +67,7 @@ fn begins_end(text: &[u8]) -> bool
     matches!(text, [b'*', b'/', ..])
 }
 
-// Whether one of these openers stands in the text of a comment.
+// Whether the text of a comment has one of these openers.
 fn holds_opener(text: &[u8]) -> bool
     ensures { result ≡ holds_opener text.now }
 {
@@ -152,7 +152,7 @@ fn begins_whole_word(word: &[u8], text: &[u8]) -> bool
     begins_word(word, text) && ends_word(&text[word.len()..])
 }
 
-// Whether the text begins with nothing that would be part of a word.
+// Whether the text doesn't begin with a byte that would be part of a word.
 fn ends_word(text: &[u8]) -> bool
     ensures { result ≡ ends_word text.now }
 {
@@ -162,14 +162,14 @@ fn ends_word(text: &[u8]) -> bool
     }
 }
 
-// Whether the client joins the byte to what stands before a comment.
+// Whether the client joins the byte to the bytes before a comment.
 fn is_joined(byte: u8) -> bool
     ensures { result ≡ is_joined byte }
 {
     128 <= byte || byte == b'\\'
 }
 
-// Whether a `*` and then this text close a comment before such a byte.
+// Whether a `*` followed by this text closes a comment before such a byte.
 fn closes_before_joined(text: &[u8]) -> bool
     ensures { result ≡ closes_before_joined text.now }
 {
@@ -179,7 +179,7 @@ fn closes_before_joined(text: &[u8]) -> bool
     }
 }
 
-// Whether the client drops a line that begins with a `-` and then this text.
+// Whether the client drops a line that begins with a `-` followed by this text.
 fn drops_line(text: &[u8]) -> bool
     ensures { result ≡ drops_line text.now }
 {
@@ -200,7 +200,7 @@ fn begins_comment(text: &[u8]) -> bool
     }
 }
 
-// Whether a `-` and then this text are two signs directly before a comment.
+// Whether a `-` followed by this text is two signs directly before a comment.
 pub(crate) fn stand_before_comment(text: &[u8]) -> bool
     ensures { result ≡ stand_before_comment text.now }
 {
@@ -217,7 +217,7 @@ fn ends_line(text: &[u8]) -> bool
     matches!(text, [b'\n', ..] | [b'\r', b'\n', ..])
 }
 
-// Whether a backslash stands in the text at the end of a line.
+// Whether a backslash is at the end of a line of the text.
 fn escapes_newline(text: &[u8]) -> bool
     ensures { result ≡ escapes_newline text.now }
 {
@@ -231,7 +231,7 @@ fn escapes_newline(text: &[u8]) -> bool
     false
 }
 
-// Whether the letter and then this text begin with a word that MariaDB's client runs itself.
+// Whether the letter followed by this text begins with a word that MariaDB's client runs itself.
 fn is_word_of_mariadb(letter: u8, rest: &[u8]) -> bool
     ensures { result ≡ is_word_of_mariadb letter rest.now }
 {
@@ -274,7 +274,7 @@ fn is_word_of_mariadb(letter: u8, rest: &[u8]) -> bool
     }
 }
 
-// Whether the letter and then this text begin with a word that MySQL's client alone runs itself.
+// Whether the letter followed by this text begins with a word that only MySQL's client runs itself.
 fn is_word_of_mysql(letter: u8, rest: &[u8]) -> bool
     ensures { result ≡ is_word_of_mysql letter rest.now }
 {
@@ -286,7 +286,7 @@ fn is_word_of_mysql(letter: u8, rest: &[u8]) -> bool
     }
 }
 
-// Whether the letter and then this text begin with a word of one of the clients.
+// Whether the letter followed by this text begins with a word of one of the clients.
 #[tactic(auto, unfolding(crate::specs::FoundInClient::is_client_word))]
 pub(crate) fn is_client_word(letter: u8, rest: &[u8]) -> bool
     ensures { result ≡ is_client_word letter rest.now }
@@ -308,7 +308,7 @@ fn begins_delimiter_line(text: &[u8]) -> bool
     false
 }
 
-// What is found at a plain byte before this text.
+// The construct that is found at a plain byte before this text.
 fn found_at_byte(statement: bool, line: bool, byte: u8, rest: &[u8]) -> Option<Construct>
     ensures { result ≡ found_at_byte statement line byte rest.now }
 {
@@ -321,7 +321,7 @@ fn found_at_byte(statement: bool, line: bool, byte: u8, rest: &[u8]) -> Option<C
     }
 }
 
-// What is found at this letter, of lower case, and then this text.
+// The construct that is found at this lower-case letter, followed by this text.
 fn found_word(statement: bool, line: bool, letter: u8, rest: &[u8]) -> Option<Construct>
     ensures { result ≡ found_word statement line letter rest.now }
 {
@@ -334,7 +334,7 @@ fn found_word(statement: bool, line: bool, letter: u8, rest: &[u8]) -> Option<Co
     None
 }
 
-// What is found in a token of these bytes, before this text.
+// The construct that is found in a token of these bytes, before this text.
 fn found_in_bytes(statement: bool, line: bool, token: &[u8], rest: &[u8]) -> Option<Construct>
     ensures { result ≡ found_in_bytes statement line token.now rest.now }
 {
@@ -346,7 +346,7 @@ fn found_in_bytes(statement: bool, line: bool, token: &[u8], rest: &[u8]) -> Opt
     }
 }
 
-// What is found in a block comment before this text.
+// The construct that is found in a block comment before this text.
 fn found_in_comment(tail: &[u8], rest: &[u8]) -> Option<Construct>
     ensures { result ≡ found_in_comment tail.now rest.now }
 {
@@ -360,7 +360,7 @@ fn found_in_comment(tail: &[u8], rest: &[u8]) -> Option<Construct>
     }
 }
 
-// What is found in a text in quotes or backquotes.
+// The construct that is found in a text in quotes or backquotes.
 fn found_in_quotes(tail: &[u8]) -> Option<Construct>
     ensures { result ≡ found_in_quotes tail.now }
 {
@@ -373,8 +373,8 @@ fn found_in_quotes(tail: &[u8]) -> Option<Construct>
     None
 }
 
-// Whether the token of this length at the front of the text is a text in quotes or backquotes in
-// which nothing begins. Most are, and nothing is found in them.
+// Whether the token of the length `len` at the front of the text is a text in quotes or backquotes
+// in which nothing begins. Most such texts are like this, and nothing is found in them.
 fn holds_nothing_in_quotes(text: &[u8], len: usize) -> bool
     requires { len ≤ length text.now }
     ensures { IsTrue result → HoldsNothingInQuotes text.now len }
@@ -382,7 +382,7 @@ fn holds_nothing_in_quotes(text: &[u8], len: usize) -> bool
     matches!(text, [b'\'' | b'"' | b'`', ..]) && len > 1 && begin_nothing_in_quotes(text, len)
 }
 
-// What is found in the token at the front of the text, which has this length.
+// The construct that is found in the token at the front of the text, which has the length `len`.
 fn found_in_front(statement: bool, line: bool, text: &[u8], len: usize) -> Option<Construct>
     requires some { 0 < len }
     requires in_range { len ≤ length text.now }
@@ -401,8 +401,8 @@ fn found_in_front(statement: bool, line: bool, text: &[u8], len: usize) -> Optio
     found_in_bytes(statement, line, token, rest)
 }
 
-// The number of bytes at the front of the text that begin no construct and are passed at once: none
-// where a word of the client may begin.
+// The number of bytes at the front of the text that begin no construct and are skipped at once. It
+// is 0 where a word of the client may begin.
 fn passed_len(statement: bool, line: bool, text: &[u8]) -> usize
     ensures in_range { result ≤ length text.now }
     ensures no_construct { EachPasses begins_no_construct text.now 0 result }
@@ -416,23 +416,24 @@ fn passed_len(statement: bool, line: bool, text: &[u8]) -> usize
     }
 }
 
-/// The first construct of a query for which it isn't portable, as
-/// [`first_unportable`](crate::portable::first_unportable) has it, or for which the client `mysql`
-/// or `mariadb` sends something else than the query.
+/// The first construct for which a query isn't portable
+/// ([`first_unportable`](crate::portable::first_unportable)), or for which the client `mysql` or
+/// `mariadb` sends something other than the query.
 ///
-/// It is for a query whose bound text goes through such a client with `--comments`, as
-/// `.. | mysql --comments --default-character-set=utf8mb4`, without `--binary-mode` and `--force`.
-/// A program that sends the text itself needs only `first_unportable`.
+/// It is for a query whose bound text goes through such a client with `--comments`, and without
+/// `--binary-mode` and `--force`. An example is
+/// `.. | mysql --comments --default-character-set=utf8mb4`. A program that sends the text itself
+/// needs only `first_unportable`.
 ///
-/// If there is none, the client reads the query as a server does
-/// ([`client_is_a_server`](crate::laws::client_is_a_server)). As far as it only reads, it cuts each
-/// text that is bound to the query into as many statements as the query has: the laws
-/// `bound_texts_in_clients`, and those of steady texts and of fragments. Only tests show that it
-/// does nothing else with the query, as to take a line for a command.
+/// If there is none, the client reads the query like a server
+/// ([`client_is_a_server`](crate::laws::client_is_a_server)). As a reader, it cuts each text that
+/// is bound to the query into as many statements as the query has. The laws
+/// `bound_texts_in_clients`, and those of steady texts and of fragments, say so. Only tests show
+/// that the client does nothing else with the query, such as taking a line for a command.
 ///
-/// It judges the bytes that it is given. A bound text with names or keywords, or with strings
-/// without backslash escapes, may hold a construct that its query doesn't have, and the client
-/// would change it: ask once more of such a text.
+/// It judges only the bytes that it is given. A bound text with names or keywords, or with strings
+/// without backslash escapes, may have a construct that its query doesn't have. The client would
+/// change such a text, so test the bound text too.
 pub fn first_unportable_in_client(query: &[u8], no_backslash_escape: bool) -> Option<Unportable>
     ensures first { OnTokens no_backslash_escape query.now
         (λ ts. result ≡ first_unportable_in_client ts) }

@@ -1,5 +1,5 @@
-//! Laws of servers, portable queries, clients and steady texts, and of equality. The functions that
-//! have no result do nothing: each is called for what it ensures.
+//! Laws about servers, portable queries, clients and steady texts, and about equality. A function
+//! without a result does nothing: it is called for its `ensures`.
 ghost use Rattle.std.specs.Prelude.{◌≡◌, ℕ, ◌<◌, ◌↔◌, Bool, List, [], ◌∷◌, codes, length, IsTrue};
 ghost use Rattle.mysql_named_params.specs.Bytes.{dollar};
 ghost use Rattle.mysql_named_params.specs.Tokens.{Token, IsTokens, BlockComment, QuotedString};
@@ -16,8 +16,8 @@ ghost use Rattle.mysql_portable.specs.Statements.{statements};
 
 use crate::portable::Unportable;
 
-/// If no backslash stands in a string of the tokens, they are the text's tokens in both modes, in
-/// the grammar and on every server.
+/// If no string among the tokens has a backslash, they are the text's tokens in both modes, in the
+/// grammar and on every server.
 pub fn modes_agree()
     ensures tokens { (mode other : Bool) (text : List ℕ) (ts : List Token) → HoldNoEscapes ts →
         IsTokens mode text ts → IsTokens other text ts }
@@ -25,8 +25,8 @@ pub fn modes_agree()
         HoldNoEscapes ts → IsReadOn server mode text ts → IsReadOn server other text ts }
 {}
 
-/// A steady text, which is ASCII without a backslash, has the same tokens in both modes, in the
-/// grammar and on every server, and every character set shows it as it is.
+/// A steady text has the same tokens in both modes, in the grammar and on every server. Every
+/// character set shows it as it is. Steady means ASCII without a backslash.
 pub fn steady_texts()
     ensures tokens { (mode other : Bool) (text : List ℕ) (ts : List Token) → IsSteady text →
         IsTokens mode text ts → IsTokens other text ts }
@@ -35,7 +35,7 @@ pub fn steady_texts()
     ensures seen { (set : CharacterSet) (text : List ℕ) → IsSteady text → seen set text ≡ text }
 {}
 
-/// Each query has one token list on a server in a mode, and no other.
+/// Each query has exactly one token list on a server in a mode.
 pub fn one_list_on_a_server()
     ensures unique { (server : Server) (mode : Bool) (query : List ℕ) (ts us : List Token) →
         IsReadOn server mode query ts → IsReadOn server mode query us → ts ≡ us }
@@ -52,9 +52,11 @@ pub fn grammar_is_a_server()
 {}
 
 /// MySQL and MariaDB, as their manuals describe them, are honest in each version, and decide about
-/// a quiet comment only by the comment. Three texts tell them from the grammar and each other. Only
-/// MariaDB reads `/*M!a*/`. The grammar reads `/*!99999a*/`, which is a comment to MariaDB and to
-/// MySQL before that version. Only to MySQL is `$$a$$` one text in quotes.
+/// a quiet comment only by the comment. Three texts distinguish them from the grammar and from each
+/// other:
+/// - Only MariaDB reads `/*M!a*/`.
+/// - The grammar reads `/*!99999a*/`. It is a comment to MariaDB, and to MySQL before that version.
+/// - Only to MySQL is `$$a$$` one text in quotes.
 pub fn known_servers()
     ensures mysql_is_honest { (version : ℕ) → IsHonest (mysql version) }
     ensures mariadb_is_honest { (version : ℕ) → IsHonest (mariadb version) }
@@ -77,26 +79,27 @@ pub fn known_servers()
         Reads (mariadb version) (codes "$$a$$") (all_plain (codes "$$a$$")) }
 {}
 
-/// If each token of a query passes its test, as those of a portable query do, then every honest
-/// server, which reads each quiet comment or skips it whole, reads the grammar's tokens, except
-/// that it may read `--` before a newline as a comment, and has its own tokens in quiet comments.
+/// If each token of a query passes its test, as those of a portable query do, every honest server
+/// reads the grammar's tokens. It may differ in two points: it may read `--` before a newline as a
+/// comment, and it has its own tokens in quiet comments. An honest server reads each quiet comment
+/// or skips it whole.
 pub fn portable_reading()
     ensures alike { (server : Server) (mode : Bool) (query : List ℕ) (ts us : List Token) →
         IsHonest server → IsTokens mode query ts → AreReadAlike ts → IsReadOn server mode query us →
         IsReadAs ts us }
 {}
 
-/// No weaker condition serves: if every honest server reads a query so, each of its tokens passes
-/// its test. (A portable query also has no place directly after an exponent's sign, which is more
-/// than this needs.)
+/// No weaker condition is enough: if every honest server reads a query like this, each of its
+/// tokens passes its test. (A portable query also has no place directly after an exponent's sign,
+/// which this doesn't need.)
 pub fn portable_is_sharp()
     ensures sharp { (mode : Bool) (query : List ℕ) (ts : List Token) → IsTokens mode query ts →
         ((server : Server) (us : List Token) → IsHonest server → IsReadOn server mode query us →
         IsReadAs ts us) → AreReadAlike ts }
 {}
 
-/// Such a query, as each portable one is, has the same names and marks at the same positions on
-/// every honest server.
+/// A query whose tokens pass their tests, such as a portable one, has the same names and marks at
+/// the same positions on every honest server.
 pub fn same_places()
     ensures names { (server : Server) (mode : Bool) (query : List ℕ) (ts us : List Token) →
         IsHonest server → IsTokens mode query ts → AreReadAlike ts → IsReadOn server mode query us →
@@ -109,16 +112,16 @@ pub fn same_places()
         positions us ≡ positions ts }
 {}
 
-/// Such a query has as many statements on every honest server.
+/// Such a query has the same number of statements on every honest server.
 pub fn same_statements()
     ensures count { (server : Server) (mode : Bool) (query : List ℕ) (ts us : List Token) →
         IsHonest server → IsTokens mode query ts → AreReadAlike ts → IsReadOn server mode query us →
         length (statements us) ≡ length (statements ts) }
 {}
 
-/// A client that keeps comments is one more server for each such query without `/*!`, `/*+` and
-/// `/*/` in a block comment: it reads what its server reads, and nothing else. So what the laws say
-/// of servers holds of it.
+/// For each such query without `/*!`, `/*+` and `/*/` in a block comment, a client that keeps
+/// comments is one more server: it reads exactly the tokens that its server reads. So the laws
+/// about servers hold for it.
 pub fn client_is_a_server()
     ensures reads { (client : Client) (mode : Bool) (query : List ℕ) (ts us : List Token) →
         IsHonest client.reader → IsTokens mode query ts → AreReadAlike ts → HoldNoOpener ts →
@@ -128,7 +131,7 @@ pub fn client_is_a_server()
         IsReadBy client mode query us → IsReadOn client.reader mode query us }
 {}
 
-/// What makes queries unportable is equal if and only if construct and position are.
+/// Values of [`Unportable`] are equal if and only if construct and position are.
 pub fn unportable_equality(a: &Unportable, b: &Unportable) -> bool
     ensures same { IsTrue result ↔ (a.now ≡ b.now) }
     ensures member { result ≡ ⟦<Unportable as PartialEq>⟧.eq a.now b.now }

@@ -1,9 +1,10 @@
-//! What servers, clients, modes and character sets read in different ways in MySQL queries.
+//! Finds constructs of MySQL queries that servers, clients, modes or character sets read in
+//! different ways.
 //!
-//! A query is bytes. [`portable`] finds the first construct that servers read in different ways,
-//! [`client`] also what a client reads or sends otherwise, and [`steady`] the first byte that a
-//! mode or a character set may read otherwise. `mysql_params` hands on all three and the laws.
-//! [`clear`] is a quick test of a query, lent to the crate above.
+//! A query is bytes. [`portable`] finds the first construct that servers read in different ways.
+//! [`client`] also finds constructs that a client reads or sends differently. [`steady`] finds the
+//! first byte that a mode or a character set may read differently. `mysql_params` re-exports all
+//! three and the laws. [`clear`] is a quick test of a query, for the crate above.
 #![tactic(auto)]
 
 pub mod clear;

@@ -1,7 +1,8 @@
-//! Runs of bytes that begin no construct: with each only a plain token begins, and no construct of
-//! a server or of a client, except an exponent before a place and a word at the front of a client's
-//! line or statement. After none of them a line or a statement begins. The first bytes are passed
-//! by a table, since most runs are short, and longer ones 16 bytes at once.
+//! Runs of bytes that begin no construct. Only a plain token begins with each of them, and no
+//! construct of a server or of a client, with two exceptions: an exponent before a place, and a
+//! word at the front of a client's line or statement. No line or statement begins after one of
+//! them. The first bytes are skipped by a table, since most runs are short, and longer runs are
+//! skipped 16 bytes at once.
 ghost use Rattle.std.specs.Prelude.{◌≡◌, ◌≤◌, length};
 ghost use Rattle.mysql_named_params.specs.Bytes.{begins};
 ghost use Rattle.mysql_named_params.specs.Lanes.{EachPasses};
@@ -10,14 +11,14 @@ ghost use Rattle.mysql_portable.specs.NoConstruct.{begins_no_construct, is_of_ex
 use mysql_named_params::lanes::{ByteSet, first_set, run_end};
 use std::simd::prelude::*;
 
-// The number of bytes that are passed by the table before 16 go at once. Fewer than for plain runs,
-// since `no_construct_len` sees by itself that a run is empty. More make longer runs slower, fewer
-// make short ones slower. No other number was measured.
+// The number of bytes that are skipped by the table before 16 are searched at once. It is smaller
+// than for plain runs, since `no_construct_len` itself finds that a run is empty. A larger number
+// makes longer runs slower, a smaller number short ones. No other number was measured.
 const PASSED_BY_TABLE: usize = 4;
 
-/// A number of bytes at the front of the text that begin no construct, and none of which stands
-/// before an exponent and a place. Inline, so that where there is none one look-up tells it,
-/// without a call.
+/// A number of bytes at the front of the text that begin no construct, none of which is before an
+/// exponent and a place. It is inlined, so that one look-up without a call is enough if there is no
+/// such byte.
 #[inline(always)]
 pub(crate) fn no_construct_len(text: &[u8]) -> usize
     ensures in_range { result ≤ length text.now }
@@ -30,9 +31,9 @@ pub(crate) fn no_construct_len(text: &[u8]) -> usize
     }
 }
 
-// `no_construct_len` of a run. It needs to look at no digit: an exponent has a sign, at which a run
-// ends, so only a run that ends within one gives its last two bytes back. They may be a digit and
-// `e`.
+// `no_construct_len` of a run. It needn't look at digits: an exponent has a sign, and a run ends at
+// a sign. So only a run that ends within an exponent gives back its last two bytes, which may be a
+// digit and `e`.
 fn no_construct_run_len(text: &[u8]) -> usize
     ensures in_range { result ≤ length text.now }
     ensures no_construct { EachPasses begins_no_construct text.now 0 result }

@@ -1,5 +1,5 @@
-//! Bytes with which nothing that a client finds begins in quotes: none is a byte 0, a newline or a
-//! backslash. They are looked at 16 at once.
+//! Bytes with which nothing begins that a client finds in quotes: all except 0, a newline and a
+//! backslash. They are searched 16 at once.
 ghost use Rattle.std.specs.Prelude.{◌≡◌, ◌≤◌, length, IsTrue};
 ghost use Rattle.mysql_named_params.specs.Lanes.{EachPasses};
 ghost use Rattle.mysql_portable.specs.NothingInQuotes.{begins_nothing_in_quotes};
@@ -7,8 +7,8 @@ ghost use Rattle.mysql_portable.specs.NothingInQuotes.{begins_nothing_in_quotes}
 use mysql_named_params::lanes::{ByteSet, first_set, run_end};
 use std::simd::prelude::*;
 
-/// Whether the bytes before this index begin nothing in quotes: 16 bytes at once as long as the
-/// text has so many, also after the index, and then one by one.
+/// Whether the bytes before the index `end` begin nothing in quotes. As long as the text has 16
+/// more bytes, they are searched at once, even beyond `end`, and the others one by one.
 pub(crate) fn begin_nothing_in_quotes(text: &[u8], end: usize) -> bool
     requires { end ≤ length text.now }
     ensures { IsTrue result → EachPasses begins_nothing_in_quotes text.now 0 end }

@@ -5,8 +5,8 @@ ghost use Rattle.mysql_portable.specs.Steady.{first_unsteady, is_steady, IsStead
 /// The index of the first byte of a text that isn't steady: a backslash, or a byte from 128 on.
 ///
 /// There is none if and only if the text is steady. Then neither the mode nor the character set of
-/// a connection changes how any server reads it ([`steady_texts`](crate::laws::steady_texts)). It
-/// allocates nothing.
+/// a connection changes how a server reads the text ([`steady_texts`](crate::laws::steady_texts)).
+/// The call allocates nothing.
 #[tactic(auto, using(crate::proofs::SteadyLemmas::none_unsteady))]
 pub fn first_unsteady(text: &[u8]) -> Option<usize>
     ensures first { result ≡ first_unsteady text.now }
@@ -15,7 +15,7 @@ pub fn first_unsteady(text: &[u8]) -> Option<usize>
     unsteady_position(text)
 }
 
-// Where the first byte stands that isn't steady.
+// The index of the first byte that isn't steady.
 fn unsteady_position(text: &[u8]) -> Option<usize>
     ensures { result ≡ first_unsteady text.now }
 {

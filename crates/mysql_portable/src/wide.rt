@@ -1,4 +1,4 @@
-//! The first construct that isn't portable of a query with wide names, which may have capitals.
+//! The first construct that isn't portable in a query with wide names, which can have capitals.
 ghost use Rattle.std.specs.Prelude.{◌≡◌, ◌↔◌, true, IfOk, None, OnErr};
 ghost use Rattle.mysql_named_params.specs.LoweredNames.{have_capitals, lower_names};
 ghost use Rattle.mysql_named_params.specs.Places.{names};
@@ -12,11 +12,11 @@ use crate::portable::{Unportable, first_unportable};
 use mysql_named_params::lowered::{has_capitals, lowered_query};
 use std::alloc::{AllocError, Global};
 
-/// [`first_unportable`] of a query with wide names: the first construct of the query with these
-/// names in lower case, in which each place and each construct stands at the same position. So
-/// `/*+ SET_VAR(x=:A) */` isn't portable, as it isn't with `:a`: bound, a value stands there.
+/// [`first_unportable`] of a query with wide names. It tests the query with these names in lower
+/// case, in which each place and each construct has the same position. So `/*+ SET_VAR(x=:A) */`
+/// isn't portable, like the same text with `:a`: bound, it has a value in the hint.
 ///
-/// Only for a query with a capital in a name it asks for memory, for a copy of the query.
+/// It needs memory only if a name has a capital, for a copy of the query.
 pub fn first_unportable_wide(
     alloc: Global,
     query: &[u8],
@@ -36,10 +36,10 @@ pub fn first_unportable_wide(
     Ok(first_unportable(lowered.as_slice(), no_backslash_escape))
 }
 
-/// [`first_unportable_in_client`] of a query with wide names, as [`first_unportable_wide`] reads
-/// them.
+/// [`first_unportable_in_client`] of a query with wide names, tested as in
+/// [`first_unportable_wide`].
 ///
-/// Only for a query with a capital in a name it asks for memory, for a copy of the query.
+/// It needs memory only if a name has a capital, for a copy of the query.
 pub fn first_unportable_in_client_wide(
     alloc: Global,
     query: &[u8],
