@@ -1,4 +1,4 @@
--- The errors of parameters: which refusal of the definitions each is, and when two are equal.
+-- The errors of parameters: the refusal that each reports, and when two are equal.
 use Rattle.std.specs.Prelude.{◌≡◌, ℕ, List, Option, None, Some, ⊤}
 use Rattle.mysql_value_core.specs.declared.value.convert.ToValueError.{ToValueError}
 use Rattle.mysql_value_core.specs.declared.value.convert.ToValueError.TheVariants as to_value
@@ -9,24 +9,23 @@ use Rattle.mysql_params_core.specs.declared.params.errors.ToParamsError.{ToParam
 use Rattle.mysql_params_core.specs.declared.params.errors.ToParamsError.TheVariants as to_params
 pub use Rattle.mysql_params_core.specs.LookupErrors.{lookup_refusal, IsMissing, AreEqualParamsErrors}
 
--- the missing name that the error holds; none for out of memory
+-- the missing name that the error reports; none for out of memory
 abbrev pub absent_name : IntoPositionalError → Option (List ℕ)
 absent_name (positional.Missing error) = Some error.0.items
 absent_name (positional.Memory error) = None
 
--- the refusal of an argument without a value that the error stands for; none for out of memory
+-- the refusal of an argument without a value that the error reports; none for out of memory
 abbrev pub value_refusal : ToValueError → Option ToParamsRefusal
 value_refusal (to_value.DurationTooLong duration) = Some (too_long duration)
 value_refusal (to_value.Memory error) = None
 
--- the error of an argument whose value is refused: out of memory stays out of memory
+-- the error for an argument whose value is refused; out of memory stays out of memory
 abbrev pub of_value : ToValueError → ToParamsError
 of_value (to_value.DurationTooLong duration) = to_params.Value (to_value.DurationTooLong duration)
 of_value (to_value.Memory error) = to_params.Memory error
 
--- The refusal of `to_params` that the error stands for; none for out of memory. Nor is there one
--- for a `Value` that holds out of memory: `to_params` returns `Memory` instead, as a clause of its
--- own says.
+-- The refusal of `to_params` that the error reports; none for out of memory. There is also none for
+-- a `Value` that holds out of memory: `to_params` returns `Memory` instead, as its own clause says.
 abbrev pub to_params_refusal : ToParamsError → Option ToParamsRefusal
 to_params_refusal (to_params.Redefined name) = Some (redefined name.items)
 to_params_refusal (to_params.Value error) = value_refusal error

@@ -1,5 +1,5 @@
--- What contracts see of parameters. They don't see where the values lie in memory, nor in which
--- order a hash map holds its entries. What may be given is handed on.
+-- The view that contracts have of parameters. It has neither the places of the values in memory,
+-- nor the order in which a hash map holds its entries. The kinds of parameters are re-exported.
 use Rattle.std.specs.Prelude.{ℕ, List, map}
 use Rattle.std.specs.Global.{Vec}
 use Rattle.std.specs.FinMap.{from_entries}
@@ -16,7 +16,7 @@ by_bytes entry = (entry.0.items, entry.1)
 abbrev pub value_map : List (Vec ℕ × Value) → ValueMap
 value_map entries = from_entries (map by_bytes entries)
 
--- what these parameters give
+-- the values that these parameters give
 abbrev pub given : Params → Given
 given Empty = empty
 given (Named entries) = named (value_map entries.entries)

@@ -1,5 +1,5 @@
--- What borrowed parameters give to a query: maps and lists that are lent, and pairs whose names and
--- values are borrowed.
+-- The values that borrowed parameters give to a query: borrowed maps and lists, and pairs whose
+-- names and values are borrowed.
 use Rattle.std.specs.Prelude.{ℕ, List, map}
 use Rattle.std.specs.FinMap.{from_entries}
 use Rattle.std.specs.Borrow.{Bor}
@@ -15,11 +15,11 @@ use Rattle.mysql_params_core.specs.declared.params.borrowed.BorrowedParams.TheVa
 abbrev pub by_borrowed : Bor (List ℕ) × ValueRef → List ℕ × Value
 by_borrowed pair = (pair.0.now, owned pair.1)
 
--- the finite map of pairs; of pairs of one name it has the first
+-- the finite map of pairs; if several pairs have one name, it has the first
 abbrev pub pair_map : List (Bor (List ℕ) × ValueRef) → ValueMap
 pair_map pairs = from_entries (map by_borrowed pairs)
 
--- what these borrowed parameters give
+-- the values that these borrowed parameters give
 abbrev pub given_by_borrowed : BorrowedParams → Given
 given_by_borrowed borrowed.Empty = empty
 given_by_borrowed (borrowed.Named entries) = named (value_map entries.now.entries)

@@ -1,17 +1,17 @@
--- What may be given to a query: nothing, values by name, or values by position.
+-- The values that a query can be given: none, values by name, or values by position.
 use Rattle.std.specs.Prelude.{List}
 use Rattle.std.specs.Ordering.{nat_cmp}
 use Rattle.std.specs.Cmp.Lexicographic.{slice_cmp}
 use Rattle.std.specs.FinMap.{FinMap}
 use Rattle.mysql_value_core.specs.declared.value.Value.{Value}
 
--- a finite map from names, which are bytes, to values
+-- a finite map from names to values; a name is bytes
 abbrev pub ValueMap : Type 0
 ValueMap = FinMap (slice_cmp nat_cmp) Value
 
--- what parameters give to a query
+-- the values that parameters give to a query
 pub data Given : Type 0 where
-  -- nothing
+  -- none
   empty : Given
   -- values by name
   named : ValueMap → Given

@@ -1,5 +1,5 @@
--- The names of a list, as their bytes; that the test for a prefix says what it should. Which name
--- is reported as missing is handed on.
+-- The names of a list, as their bytes, and a definition that says that the test for a prefix is
+-- right. The name that is reported as missing is re-exported.
 use Rattle.std.specs.Prelude.{◌≡◌, ◌<◌, ◌↔◌, ℕ, Bool, List, [], map, Option, None, Some, slice_get, IsTrue}
 use Rattle.std.specs.Borrow.{Bor}
 use Rattle.std.specs.Global.{Vec}
@@ -16,11 +16,11 @@ abbrev pub listed_names : Option (Bor (List (Vec ℕ))) → List (List ℕ)
 listed_names None = []
 listed_names (Some names) = names_of names.now
 
--- the indices of the elements that pass the test are those below the count
+-- the indices of the elements that pass the test are those below `count`
 abbrev pub AreBelow : {X : Type 0} → (X → Bool) → List X → ℕ → Type 0
 AreBelow test xs count = (i : ℕ) (x : _) → slice_get xs i ≡ Some x → (IsTrue (test x) ↔ (i < count))
 
--- `is_prefix` says what it should: the indices of the names in the map are those below some count
+-- the test `is_prefix` is right: the indices of the names in the map are those below some count
 abbrev pub PrefixesAreFound : Type 0
 PrefixesAreFound = (entries : ValueMap) (names : List (List ℕ)) →
     IsTrue (is_prefix (contains_key entries) names)

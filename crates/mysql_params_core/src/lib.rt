@@ -1,5 +1,5 @@
-//! Named and positional parameters of MySQL queries: what they are made of, and the values that
-//! they give to the names of a query.
+//! Named and positional parameters of MySQL queries: the arguments that they are made from, and the
+//! values that they give to the names of a query.
 #![tactic(auto)]
 
 pub mod laws;

@@ -1,4 +1,4 @@
-//! Parameters of queries, what makes them, and the values that they give.
+//! Parameters of queries, the arguments that make them, and the values that they give.
 ghost use Rattle.std.specs.Prelude.{◌≡◌, ◌≢◌, IfOk, OnErr};
 ghost use Rattle.mysql_params_core.specs.Given.{given, empty};
 
@@ -29,21 +29,20 @@ pub use to_params::ToParams;
 
 /// The parameters of a query: none, values by name, or values by position.
 ///
-/// Two are equal if and only if the variants are, and the list or the map. In a map the order of
-/// the entries doesn't count.
+/// Two are equal if and only if their variants are equal, and their list or map. The order of
+/// entries in a map doesn't count.
 #[derive(PartialEq, Drop)]
 pub enum Params {
-    /// Nothing.
+    /// No parameters.
     Empty,
-    /// Values by name, which is bytes.
+    /// Values by name. A name is bytes.
     Named(HashMap<Vec<u8>, Value>),
     /// Values by position.
     Positional(Vec<Value>),
 }
 
 impl Params {
-    /// A copy of the parameters, on the allocator that they hold. A copy of `Empty` allocates
-    /// nothing.
+    /// A copy of the parameters, on their own allocator. A copy of `Empty` allocates nothing.
     pub fn clone(&self) -> Result<Params, AllocError>
         ensures equal { IfOk result (λ copy. given copy ≡ given self.now) }
         ensures memory { OnErr result (given self.now ≢ empty) }

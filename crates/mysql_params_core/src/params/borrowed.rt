@@ -1,4 +1,4 @@
-//! The values of the names of a query, borrowed and not copied, from parameters that are borrowed.
+//! The values for the names of a query, borrowed from parameters without a copy.
 ghost use Rattle.std.specs.Prelude.{◌≡◌, ◌<◌, IfOk, IsErrOf, OnErr, alloc_error, length, ⊤};
 ghost use Rattle.mysql_wire_part.specs.Answer.{IsAnswer};
 ghost use Rattle.mysql_params_core.specs.Errors.{lookup_refusal};
@@ -16,19 +16,19 @@ use mysql_values::value::{Value, ValueRef};
 use std::alloc::{AllocError, Global};
 use std::collections::{BTreeMap, HashMap};
 
-/// Parameters that are lent: maps, pairs or lists, of values that are owned or borrowed. The crates
-/// above bind by these; no user needs them.
+/// Borrowed parameters: maps, pairs or lists, with values that are owned or borrowed. The crates
+/// above bind with these; no user needs them.
 #[derive(Clone, Copy)]
 pub enum BorrowedParams<'p, 'v> {
-    /// Nothing.
+    /// No parameters.
     Empty,
     /// Values by name.
     Named(&'p HashMap<Vec<u8>, Value>),
     /// Values by name, in the order of the names.
     Sorted(&'p BTreeMap<Vec<u8>, Value>),
-    /// Values by name, in pairs. Of pairs of one name the first counts.
+    /// Values by name, in pairs. If several pairs have one name, the first counts.
     Pairs(&'p NamedPairs<'p>),
-    /// Values by name, in the order of the names; both are borrowed.
+    /// Values by name, in the order of the names. Names and values are borrowed.
     SortedPairs(&'p BTreeMap<&'v [u8], ValueRef<'v>>),
     /// Values by position.
     Positional(&'p [Value]),
@@ -49,13 +49,13 @@ impl Params {
     }
 }
 
-/// The values for the names of a query, as [`Params::into_values`] gives them, where they stand in
-/// the parameters: no value is copied, and of the names only one that is missing. An empty list
-/// means a query without names.
+/// The values for the names of a query, like [`Params::into_values`], but borrowed from the
+/// parameters. No value is copied, and no name except one that is missing. An empty list means a
+/// query without names.
 ///
-/// `Missing` and `Confusion` are as with [`Params::into_values`]. For a list with names `Memory` is
-/// returned only if the parameters are not by position. For an empty list it is returned only if
-/// there are values by position. The crates above bind by this; no user needs it.
+/// `Missing` and `Confusion` come as in [`Params::into_values`]. For a list with names, `Memory`
+/// comes only if the parameters are not by position. For an empty list, it comes only if there are
+/// values by position. The crates above bind with this; no user needs it.
 pub fn place_values<'p>(
     alloc: Global,
     params: BorrowedParams<'p, '_>,
@@ -98,7 +98,7 @@ pub fn place_values<'p>(
     }
 }
 
-// The values, borrowed, in order.
+// The borrowed values, in order.
 fn borrowed_values<'v>(alloc: Global, values: &'v [Value]) -> Result<Vec<ValueRef<'v>>, AllocError>
     ensures values { IfOk result (λ refs. owned_values refs.items ≡ values.now) }
     ensures memory { OnErr result (0 < length values.now) }
@@ -110,7 +110,7 @@ fn borrowed_values<'v>(alloc: Global, values: &'v [Value]) -> Result<Vec<ValueRe
     Ok(refs)
 }
 
-// A copy of the list, whose values stay borrowed.
+// A copy of the list. The values in it stay borrowed.
 fn copied_values<'v>(
     alloc: Global,
     values: &[ValueRef<'v>],
@@ -124,7 +124,7 @@ fn copied_values<'v>(
     Vec::from_slice(alloc, values)
 }
 
-// What named parameters give to a list of names. Each name is looked up once.
+// The values that named parameters give to a list of names. Each name is looked up once.
 fn named_place_values<'p, M: NamedValues>(
     alloc: Global,
     entries: &'p M,

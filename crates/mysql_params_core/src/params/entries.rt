@@ -11,24 +11,25 @@ use mysql_values::value::{Value, ValueRef};
 use std::alloc::{AllocError, Global};
 use std::collections::{BTreeMap, HashMap};
 
-/// Values by name, lent to the crates above: a map of either kind, or pairs.
+/// Values by name: a map of either kind, or pairs. For the crates above.
 pub trait NamedValues: Drop {
-    // the finite map that it stands for
+    // the finite map that it represents
     ghost values: { Self → ValueMap };
 
-    /// The value of a name, borrowed.
+    /// The borrowed value of a name.
     fn value_of(&self, name: &[u8]) -> Option<ValueRef<'_>>
         ensures { option_map owned result ≡ get (values self.now) name.now };
 }
 
-/// A map from names to values, of either kind, lent to the crates above: the hash map of
-/// [`Params`](crate::params::Params), or a sorted one, which no choice of names makes slow.
+/// A map from names to values, of either kind. One is the hash map of
+/// [`Params`](crate::params::Params). The other is a sorted map, which no choice of names makes
+/// slow. For the crates above.
 pub trait NameMap: NamedValues {
-    /// The map without names.
+    /// An empty map.
     fn without_names(alloc: Global) -> Self
         ensures { Self.values result ≡ empty };
 
-    /// Inserts a value under a copy of a name. If memory is refused, the map stays as it was.
+    /// Inserts a value under a copy of the name. If memory is refused, the map is unchanged.
     fn insert_value(&mut self, alloc: Global, name: &[u8], value: Value) -> Result<(), AllocError>
         ensures inserted { OnOk result (Self.values self.new
             ≡ insert (Self.values self.old) name.now value) }
@@ -81,8 +82,8 @@ impl NameMap for BTreeMap<Vec<u8>, Value> {
     }
 }
 
-/// Pairs of a name and a value, both borrowed. Of pairs of one name the first counts. A value is
-/// found by a walk over the pairs.
+/// Pairs of a name and a value, both borrowed. If several pairs have one name, the first counts. A
+/// value is found by a walk over the pairs.
 #[derive(Drop)]
 pub struct NamedPairs<'p>(pub &'p [(&'p [u8], ValueRef<'p>)]);
 
@@ -99,22 +100,22 @@ impl NamedValues for NamedPairs<'_> {
     }
 }
 
-/// Up to so many pairs are told apart, and found, sooner by walks than in a sorted map.
+/// Up to this many pairs are compared and searched faster by walks than in a sorted map.
 const FEW_PAIRS: usize = 64;
 
 impl<'p> NamedPairs<'p> {
-    /// Whether a name is looked up by a walk over the pairs, which allocates nothing: whether there
-    /// are at most 64. The crates above ask this; no user needs it.
+    /// Whether there are at most 64 pairs. If so, a name is looked up by a walk over the pairs,
+    /// which allocates nothing. For the crates above; no user needs it.
     pub fn are_few(&self) -> bool
         ensures { IsTrue result ↔ (length self.now.0.now ≤ few_pairs) }
     {
         self.0.len() <= FEW_PAIRS
     }
 
-    /// The index of the first pair whose name is that of an earlier one. If there is none, the
-    /// pairs give what [`Params::from_pairs`](crate::params::Params::from_pairs) makes of them; it
-    /// refuses them otherwise, with that name. Only more than 64 pairs ask for memory: a sorted map
-    /// of them is made, and dropped.
+    /// The index of the first pair that has the name of an earlier pair. If there is none,
+    /// [`Params::from_pairs`](crate::params::Params::from_pairs) accepts the pairs and gives the
+    /// same values. Otherwise it refuses them with that name. Only more than 64 pairs need memory:
+    /// a sorted map of them is made, and dropped.
     pub fn first_redefined(&self, alloc: Global) -> Result<Option<usize>, AllocError>
         ensures answer { IfOk result (λ found. MatchOption found
             (pairs_made (map seen_pair self.now.0.now) ≡ Ok (named (pair_map self.now.0.now)))
@@ -128,7 +129,7 @@ impl<'p> NamedPairs<'p> {
         }
     }
 
-    // The same of few pairs: each is compared with those before it.
+    // The same for few pairs. Each pair is compared with those before it.
     fn first_redefined_by_walks(&self) -> Option<usize>
         ensures { MatchOption result
             (pairs_made (map seen_pair self.now.0.now) ≡ Ok (named (pair_map self.now.0.now)))

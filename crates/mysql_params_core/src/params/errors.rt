@@ -1,4 +1,4 @@
-//! Why parameters are refused.
+//! The causes for which parameters are refused.
 ghost use Rattle.std.specs.Prelude.{◌≡◌, IfOk, OnErr, alloc_error};
 ghost use Rattle.mysql_params_core.specs.Errors.{AreEqualParamsErrors, IsMissing, of_value};
 ghost use Rattle.mysql_params_core.specs.declared.params.errors.ParamsError.TheVariants.{Missing, Confusion, Memory};
@@ -10,13 +10,13 @@ use mysql_values::value::convert::ToValueError;
 use std::alloc::{AllocError, AllocFailed};
 use thiserror::Error;
 
-/// The name of a query that the parameters have no value for.
+/// A name of the query has no value in the parameters. The field is the name.
 #[derive(Debug, PartialEq, Eq, Drop, Error)]
 #[error("Missing named parameter `{}` for statement", Shown(.0.as_slice()))]
 pub struct MissingNamedParameterError(pub Vec<u8>);
 
 impl MissingNamedParameterError {
-    /// A copy of the error, on the allocator that the name holds.
+    /// A copy of the error, on the allocator of the name.
     pub fn clone(&self) -> Result<MissingNamedParameterError, AllocError>
         ensures equal { IfOk result (λ copy. copy.0.items ≡ self.now.0.items) }
     {
@@ -25,7 +25,7 @@ impl MissingNamedParameterError {
     }
 }
 
-/// Parameters of one kind were given, and the query wants the other.
+/// Parameters of one kind were given, but the query takes the other kind.
 #[derive(Debug, Clone, Copy, PartialEq, Eq, Hash, Error)]
 pub enum ParamsConfusionError {
     /// The query has no names, and the parameters are named.
@@ -36,7 +36,7 @@ pub enum ParamsConfusionError {
     PositionalParamsForNamedQuery,
 }
 
-/// Why parameters don't give the values of a query.
+/// The cause for which parameters don't give the values of a query.
 #[derive(Debug, PartialEq, Eq, Drop, Error)]
 pub enum ParamsError {
     /// A name of the query has no value.
@@ -51,8 +51,7 @@ pub enum ParamsError {
 }
 
 impl ParamsError {
-    /// A copy of the error. Only a copy of `Missing` allocates, on the allocator that the name
-    /// holds.
+    /// A copy of the error. Only a copy of `Missing` allocates, on the allocator of the name.
     pub fn clone(&self) -> Result<ParamsError, AllocError>
         ensures equal { IfOk result (λ copy. AreEqualParamsErrors copy self.now) }
         ensures memory { OnErr result (IsMissing self.now) }
@@ -89,7 +88,7 @@ impl From<AllocError> for ParamsError {
     }
 }
 
-/// Of a value that had no place in a list.
+/// Memory was refused for a list, so a value had no place in it.
 impl<T: Drop> From<AllocFailed<T>> for ParamsError {
     ghost from_gives = { λ _ error. error ≡ Memory alloc_error };
 
@@ -98,7 +97,7 @@ impl<T: Drop> From<AllocFailed<T>> for ParamsError {
     }
 }
 
-/// Why named parameters don't become positional.
+/// The cause for which named parameters don't become positional ones.
 #[derive(Debug, PartialEq, Eq, Drop, Error)]
 pub enum IntoPositionalError {
     /// A name of the list has no value.
@@ -117,13 +116,13 @@ impl From<AllocError> for IntoPositionalError {
     }
 }
 
-/// Why arguments make no parameters.
+/// The cause for which arguments make no parameters.
 #[derive(Debug, PartialEq, Drop, Error)]
 pub enum ToParamsError {
-    /// The name of a pair is that of an earlier one.
+    /// A pair has the name of an earlier pair. The field is the name.
     #[error("Redefinition of named parameter `{}'", Shown(.0.as_slice()))]
     Redefined(Vec<u8>),
-    /// An argument has no value. The error is never out of memory: that is `Memory`.
+    /// An argument has no value. Out of memory is never reported here, but as `Memory`.
     #[error(transparent)]
     Value(ToValueError),
     /// Out of memory.
@@ -139,7 +138,7 @@ impl From<AllocError> for ToParamsError {
     }
 }
 
-/// Of a value that had no place in a list or a map.
+/// Memory was refused for a list or a map, so a value had no place in it.
 impl<T: Drop> From<AllocFailed<T>> for ToParamsError {
     ghost from_gives = { λ _ error. error ≡ to_params.Memory alloc_error };
 

@@ -19,16 +19,19 @@ use std::alloc::{AllocError, Global};
 use std::collections::HashMap;
 
 impl Params {
-    /// The values for the names of a query, in their order, with a repeated name's value each time
-    /// that the name stands there. Names in the map that are not listed are ignored. `None` and an
-    /// empty list mean a query without names: it takes positional parameters as they are.
+    /// Returns the values for the names of a query, in their order. A name that is repeated gives
+    /// its value each time. Names in the map that aren't listed are ignored. `None` and an empty
+    /// list both mean a query without names, which takes positional parameters as they are.
     ///
-    /// `Missing` holds a name that has no value. For `Empty` it is the first of the list. For
-    /// `Named` it is the last of the list if the listed names that are in the map are exactly a
-    /// prefix of the list, which may be empty; otherwise it is the first that isn't in the map.
-    /// `Confusion` is for positional parameters and a list with names, and for named parameters
-    /// (also of an empty map) and a query without names. `Memory` is returned only for `Named` or
-    /// `Empty` and a list with names. The parameters are consumed even if the call refuses.
+    /// `Missing` holds a name without a value:
+    /// - For `Empty` it is the first name of the list.
+    /// - For `Named` it depends on the listed names that are in the map. If they are exactly a
+    ///   prefix of the list, which may be empty, it is the last name of the list. Otherwise it is
+    ///   the first name that isn't in the map.
+    ///
+    /// `Confusion` comes for positional parameters and a list with names. It also comes for named
+    /// parameters, even of an empty map, and a query without names. `Memory` comes only for `Named`
+    /// or `Empty` and a list with names. The parameters are consumed, even if the call is refused.
     pub fn into_values(
         self,
         alloc: Global,
@@ -62,10 +65,10 @@ impl Params {
         }
     }
 
-    /// The same parameters by position: named ones give the values for the names, in their order,
-    /// or the first name that has no value. Others are returned unchanged. `Memory` is returned
-    /// only for named parameters and a list with names. The parameters are consumed even if the
-    /// call refuses.
+    /// Returns the same parameters by position. Named parameters give the values for the names, in
+    /// their order, or are refused with the first name that has no value. Other parameters are
+    /// returned unchanged. `Memory` comes only for named parameters and a list with names. The
+    /// parameters are consumed, even if the call is refused.
     pub fn into_positional(
         self,
         alloc: Global,
@@ -83,7 +86,7 @@ impl Params {
     }
 }
 
-// What named parameters give to a list with names.
+// The values that named parameters give to a list with names.
 fn named_values(
     alloc: Global,
     entries: HashMap<Vec<u8>, Value>,
@@ -99,7 +102,7 @@ fn named_values(
     }
 }
 
-// What named parameters are by position.
+// The named parameters by position.
 fn named_positional(
     alloc: Global,
     entries: HashMap<Vec<u8>, Value>,
@@ -122,7 +125,7 @@ fn named_positional(
     }
 }
 
-// The index of the first name that is not in the map.
+// The index of the first name that isn't in the map.
 fn first_absent(entries: &HashMap<Vec<u8>, Value>, names: &[Vec<u8>]) -> Option<usize>
     ensures { IsFirstAbsent (value_map entries.now.entries) (names_of names.now) result }
 {
@@ -134,7 +137,7 @@ fn first_absent(entries: &HashMap<Vec<u8>, Value>, names: &[Vec<u8>]) -> Option<
     None
 }
 
-// The name that is reported as missing. `first` is the index of the first name that is not in the
+// The name that is reported as missing. `first` is the index of the first name that isn't in the
 // map.
 pub(crate) fn reported_name<'n, M: NamedValues, N: ToName>(
     entries: &M,
@@ -161,10 +164,10 @@ fn has_any<M: NamedValues, N: ToName>(entries: &M, names: &[N]) -> bool
         .any(|name| has_name(entries, name.name_bytes()))
 }
 
-// The values of the names, all of which are in the map. The first time that a name stands in the
-// list its value is moved out of the map, together with the key; each later time it is copied.
-// `indices` holds the keys that were moved out, each with the index of its value, so that no name
-// is copied and no list searched.
+// The values of the names, all of which are in the map. For the first occurrence of a name in the
+// list, its value is moved out of the map with the key. For each later occurrence, the value is
+// copied. `indices` holds the keys that were moved out, each with the index of its value. So no
+// name is copied and no list is searched.
 fn take_values(
     alloc: Global,
     entries: HashMap<Vec<u8>, Value>,
@@ -192,7 +195,7 @@ fn take_values(
     Ok(values)
 }
 
-// The error of a lookup for a name that is missing, or out of memory.
+// The error of a lookup for a missing name, or out of memory.
 pub(crate) fn missing_params_error(alloc: Global, name: &[u8]) -> ParamsError
     ensures { (lookup_refusal result ≡ None) ⊎ (lookup_refusal result ≡ Some (missing name.now)) }
 {
@@ -202,7 +205,7 @@ pub(crate) fn missing_params_error(alloc: Global, name: &[u8]) -> ParamsError
     }
 }
 
-// The error of a name that is missing.
+// The error for a missing name.
 fn missing_error(alloc: Global, name: &[u8]) -> Result<MissingNamedParameterError, AllocError>
     ensures { IfOk result (λ error. error.0.items ≡ name.now) }
 {

@@ -1,4 +1,4 @@
-//! Tuples of pairs of a name and an argument make named parameters.
+//! Named parameters from tuples of pairs of a name and an argument.
 ghost use Rattle.std.specs.Prelude.{◌≢◌, ◌∷◌, ℕ, List, [], Ok, IfErr, alloc_error, fold, ⊤};
 ghost use Rattle.mysql_wire_part.specs.Answer.{IsAnswer};
 ghost use Rattle.mysql_value_core.specs.declared.value.convert.ToValueError.TheVariants as to_value;
@@ -15,16 +15,16 @@ use mysql_values::value::convert::ToValue;
 use std::alloc::Global;
 use std::collections::HashMap;
 
-/// Pairs of a name and an argument, as tuples of them: `(("id", 7), ("name", "x"))`.
+/// Pairs of a name and an argument, as a tuple: `(("id", 7), ("name", "x"))`.
 pub trait ToPairs {
     // the names, and the values of the arguments
     ghost pairs: { Self → List (List ℕ × Meaning) };
 
-    /// The named parameters that the pairs make, taken in order, as
-    /// [`Params::from_pairs`](crate::params::Params::from_pairs) makes them: a pair with the name
-    /// of an earlier pair is refused as `Redefined` with that name, and its argument isn't asked
-    /// for its value. An argument that has no value is refused as `Value`. The first refusal ends
-    /// it. `Memory` may come in place of any other result.
+    /// Makes named parameters of the pairs, in order, like
+    /// [`Params::from_pairs`](crate::params::Params::from_pairs). A pair with the name of an
+    /// earlier pair is refused as `Redefined` with that name, and its argument isn't converted. An
+    /// argument that has no value is refused as `Value`. The call stops at the first refusal.
+    /// `Memory` can come in place of any other result.
     fn to_named(&self, alloc: Global) -> Result<Params, ToParamsError>
         ensures made { IsAnswer given to_params_refusal (pairs_made (pairs self.now)) ⊤ result }
         ensures value { IfErr result (λ error.
@@ -363,7 +363,7 @@ impl<
     }
 }
 
-// The named parameters that the pairs of a row make.
+// Makes named parameters of the pairs of a row.
 fn pair_row_params<R: InsertPairs>(alloc: Global, row: &R) -> Result<Params, ToParamsError>
     ensures made { IsAnswer given to_params_refusal (pairs_made (R.inserted row.now)) ⊤ result }
     ensures value { IfErr result (λ error.
@@ -374,7 +374,7 @@ fn pair_row_params<R: InsertPairs>(alloc: Global, row: &R) -> Result<Params, ToP
     Ok(Params::Named(entries))
 }
 
-// A row of references to pairs, whose values go into a map.
+// A row of references to pairs, whose values are inserted into a map.
 trait InsertPairs {
     // the names, and the values of the arguments
     ghost inserted: { Self → List (List ℕ × Meaning) };

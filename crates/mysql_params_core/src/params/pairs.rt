@@ -1,4 +1,4 @@
-//! Pairs of a name and an argument make named parameters.
+//! Named parameters from pairs of a name and an argument.
 ghost use Rattle.std.specs.Prelude.{◌≡◌, ◌≢◌, ◌⊎◌, ℕ, List, None, Some, Ok, map, IfErr, alloc_error, string_bytes, ⊤};
 ghost use Rattle.mysql_wire_part.specs.Answer.{IsAnswer};
 ghost use Rattle.mysql_value_core.specs.declared.value.convert.ToValueError.TheVariants as to_value;
@@ -14,7 +14,7 @@ use mysql_values::value::convert::{ToValue, ToValueError};
 use std::alloc::Global;
 use std::collections::HashMap;
 
-/// What names a parameter.
+/// The name of a parameter, as a type.
 pub trait ToName {
     // the bytes of the name
     ghost name: { Self → List ℕ };
@@ -57,10 +57,10 @@ impl ToName for String {
 }
 
 impl Params {
-    /// Named parameters of pairs, taken in order. A pair with the name of an earlier pair is
-    /// refused as `Redefined` with that name, and its argument isn't asked for its value. An
-    /// argument that has no value is refused as `Value`. The first refusal ends it. No pairs make
-    /// an empty map. `Memory` may come in place of any other result.
+    /// Makes named parameters of pairs, in order. A pair with the name of an earlier pair is
+    /// refused as `Redefined` with that name, and its argument isn't converted. An argument that
+    /// has no value is refused as `Value`. The call stops at the first refusal. No pairs make an
+    /// empty map. `Memory` can come in place of any other result.
     pub fn from_pairs<N: ToName, V: ToValue>(
         alloc: Global,
         pairs: &[(N, V)],
@@ -77,7 +77,7 @@ impl Params {
         Ok(Params::Named(entries))
     }
 
-    /// The same for arguments of several types, by what each names as its value.
+    /// The same for arguments of several types, as objects.
     pub fn from_objects(
         alloc: Global,
         pairs: &[(&[u8], &dyn ToValue)],
@@ -95,7 +95,7 @@ impl Params {
     }
 }
 
-// Inserts the value of an argument under its name, which may not be in the map yet.
+// Inserts the value of an argument under its name. The name is refused if it is already in the map.
 pub(crate) fn insert_pair<V: ToValue>(
     alloc: Global,
     entries: &mut HashMap<Vec<u8>, Value>,
@@ -114,7 +114,7 @@ pub(crate) fn insert_pair<V: ToValue>(
     insert_new(alloc, entries, name, argument.to_value(alloc))
 }
 
-// The same for an object, through its interface alone.
+// The same for an object, only through its interface.
 fn insert_object_pair(
     alloc: Global,
     entries: &mut HashMap<Vec<u8>, Value>,
@@ -144,7 +144,7 @@ fn redefined_error(alloc: Global, name: &[u8]) -> ToParamsError
     }
 }
 
-// Inserts under a new name what an argument returned as its value. A caller says which value the
+// Inserts the value that an argument returned, under a new name. The caller says which value the
 // argument has.
 fn insert_new(
     alloc: Global,

@@ -1,11 +1,11 @@
-//! How parameters are shown for debugging.
+//! Parameters as text, for debugging.
 use crate::params::Params;
 use mysql_values::show::Shown;
 use mysql_values::value::Value;
 use std::collections::HashMap;
 use std::fmt;
 
-/// The variant, and the values by position or in the order of the names' bytes.
+/// Shows the variant, and the values by position or in the order of the names' bytes.
 impl fmt::Debug for Params {
     fn fmt<W: fmt::Write>(&self, f: &mut fmt::Formatter<W>) -> fmt::Result {
         match self {

@@ -1,4 +1,4 @@
-//! Borrowed pairs in a sorted map: for many of them, among which walks would be slow.
+//! Borrowed pairs in a sorted map, for many pairs, in which walks would be slow.
 ghost use Rattle.std.specs.Prelude.{◌≡◌, ◌<◌, Ok, IfOk, IsErrOf, MatchOption, alloc_error, length, map, option_map, ⊤};
 ghost use Rattle.std.specs.FinMap.{get};
 ghost use Rattle.mysql_wire_part.specs.Answer.{IsAnswer};
@@ -25,7 +25,7 @@ impl<'p> NamedValues for BTreeMap<&'p [u8], ValueRef<'p>> {
     }
 }
 
-// The value of a name, which outlives the map.
+// The borrowed value of a name. It outlives the map.
 fn sorted_value<'p>(entries: &BTreeMap<&'p [u8], ValueRef<'p>>, name: &[u8]) -> Option<ValueRef<'p>>
     ensures { option_map owned result ≡ get (pair_map entries.now.entries) name.now }
 {
@@ -35,8 +35,8 @@ fn sorted_value<'p>(entries: &BTreeMap<&'p [u8], ValueRef<'p>>, name: &[u8]) -> 
     }
 }
 
-/// The index of the first pair whose name is that of an earlier one: each pair is inserted into a
-/// sorted map of those before it.
+/// The index of the first pair that has the name of an earlier pair. Each pair is inserted into a
+/// sorted map of the pairs before it.
 pub(super) fn first_redefined_sorted<'p>(
     alloc: Global,
     pairs: &[(&'p [u8], ValueRef<'p>)],
@@ -54,8 +54,8 @@ pub(super) fn first_redefined_sorted<'p>(
     Ok(None)
 }
 
-// The pairs in a sorted map. Of pairs of one name it has the first, since they are inserted from
-// the last on.
+// The pairs in a sorted map. If several pairs have one name, it has the first, since the pairs are
+// inserted from last to first.
 fn sorted_pairs<'p>(
     alloc: Global,
     pairs: &[(&'p [u8], ValueRef<'p>)],
@@ -71,7 +71,8 @@ fn sorted_pairs<'p>(
     Ok(entries)
 }
 
-/// What pairs give to a list of names: each name is looked up in a sorted map of them.
+/// The values that pairs give to a list of names. Each name is looked up in a sorted map of the
+/// pairs.
 pub(super) fn sorted_place_values<'p>(
     alloc: Global,
     pairs: &[(&'p [u8], ValueRef<'p>)],

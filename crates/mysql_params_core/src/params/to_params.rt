@@ -1,4 +1,4 @@
-//! What makes parameters.
+//! Conversion of arguments to parameters.
 ghost use Rattle.std.specs.Prelude.{◌≡◌, ◌≢◌, [], map, Ok, IfErr, IsErrOf, alloc_error, ⊤};
 ghost use Rattle.mysql_wire_part.specs.Answer.{IsAnswer};
 ghost use Rattle.mysql_value_core.specs.declared.value.convert.ToValueError.TheVariants as to_value;
@@ -12,16 +12,16 @@ use mysql_values::value::Value;
 use mysql_values::value::convert::{ToValue, ToValueError};
 use std::alloc::Global;
 
-/// What makes parameters.
+/// A type from which parameters can be made.
 pub trait ToParams {
-    // the parameters that it makes, or why it makes none
+    // the parameters that it makes, or the refusal
     ghost made: { Self → Made };
 
     // whether making them allocates
     ghost takes_memory: { Self → Type 0 };
 
-    /// The parameters that `self` makes, or the refusal of the first item that has no value.
-    /// `Memory` is returned only if the type says that it allocates; `Value` never holds it.
+    /// Makes parameters, or returns the refusal of the first item that has no value. `Memory` comes
+    /// only if the type says that it allocates. `Value` never holds out of memory.
     fn to_params(&self, alloc: Global) -> Result<Params, ToParamsError>
         ensures made { IsAnswer given to_params_refusal (made self.now) ⊤ result }
         ensures memory { IsErrOf result (ToParamsError.Memory alloc_error) → takes_memory self.now }
@@ -39,7 +39,7 @@ impl ToParams for () {
     }
 }
 
-/// The copy is on the allocator that the parameters hold.
+/// The copy is on the allocator of the parameters.
 impl ToParams for Params {
     ghost made = { λ params. Ok (given params) };
 
@@ -71,8 +71,8 @@ impl<T: ToValue> ToParams for Vec<T> {
 }
 
 impl ToParams for &[&dyn ToValue] {
-    // What each object names as its value. A function's clause writes `value_of object.now`, as
-    // that of `object_params` does; an implementation has to write it out.
+    // The value of each object. The clause of a function writes `value_of object.now`, like that of
+    // `object_params`. An implementation has to write it out.
     ghost made = { λ objects.
         list_made (map (λ object. (ToValue-dyn object.now).value_of object.now.1) objects.now) };
 
@@ -83,7 +83,7 @@ impl ToParams for &[&dyn ToValue] {
     }
 }
 
-// What a list of arguments makes.
+// The parameters that a list of arguments makes.
 fn list_params<T: ToValue>(alloc: Global, arguments: &[T]) -> Result<Params, ToParamsError>
     ensures made { IsAnswer given to_params_refusal
         (list_made (map T.value_of arguments.now)) ⊤ result }
@@ -101,7 +101,7 @@ fn list_params<T: ToValue>(alloc: Global, arguments: &[T]) -> Result<Params, ToP
     Ok(Params::Positional(values))
 }
 
-// The same for objects, through the interface of each alone.
+// The same for objects, only through the interface of each.
 fn object_params(alloc: Global, objects: &[&dyn ToValue]) -> Result<Params, ToParamsError>
     ensures made { IsAnswer given to_params_refusal
         (list_made (map (λ object. value_of object.now) objects.now)) ⊤ result }
@@ -133,7 +133,7 @@ pub(crate) fn append_value<T: ToValue>(
     append_answer(values, argument.to_value(alloc))
 }
 
-// The same for an object, through its interface alone.
+// The same for an object, only through its interface.
 fn append_object_value(
     alloc: Global,
     values: &mut Vec<Value>,
@@ -147,7 +147,7 @@ fn append_object_value(
     append_answer(values, object.to_value(alloc))
 }
 
-// Appends what an argument returned as its value. A caller says which value the argument has.
+// Appends the value that an argument returned. The caller says which value the argument has.
 fn append_answer(
     values: &mut Vec<Value>,
     answer: Result<Value, ToValueError>,

@@ -1,4 +1,4 @@
-//! Tuples of arguments that have values make positional parameters.
+//! Positional parameters from tuples of arguments that have values.
 ghost use Rattle.std.specs.Prelude.{◌≢◌, ◌∷◌, List, [], fold, Ok, IfErr, alloc_error, ⊤};
 ghost use Rattle.mysql_wire_part.specs.Answer.{IsAnswer};
 ghost use Rattle.mysql_value_core.specs.declared.value.convert.ToValueError.TheVariants as to_value;
@@ -269,7 +269,7 @@ fn row_params<R: AppendValues>(alloc: Global, row: &R) -> Result<Params, ToParam
     Ok(Params::Positional(values))
 }
 
-// A row of references to arguments, whose values go to the end of a list.
+// A row of references to arguments, whose values are appended to a list.
 trait AppendValues {
     // the values of the arguments
     ghost appended: { Self → List Meaning };
