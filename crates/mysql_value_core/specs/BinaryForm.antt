@@ -1,4 +1,4 @@
--- How values are written in binary form (MySQL client/server protocol, "Binary Protocol Value").
+-- Values written in binary form (MySQL client/server protocol, "Binary Protocol Value").
 use Rattle.std.specs.Prelude.{ℕ, Bool, ◌==◌, ◌&&◌, List, [], ◌∷◌, ◌++◌, if◌then◌else◌}
 use Rattle.std.specs.Int.{w64, cast_unsigned}
 use Rattle.byteorder.specs.Endian.{little_bytes}
@@ -10,8 +10,8 @@ use Rattle.mysql_value_core.specs.declared.value.Value.TheVariants.{NULL, Bytes,
 abbrev pub day_bytes : ℕ → ℕ → ℕ → List ℕ
 day_bytes year month day = little_bytes 2 year ++ month ∷ day ∷ []
 
--- A date: the number of bytes that follow, and the shortest of four forms whose missing fields
--- are all 0.
+-- A date: the number of the bytes after the first, and the shortest of four forms in which all
+-- missing fields are 0.
 abbrev pub date_form : ℕ → ℕ → ℕ → ℕ → ℕ → ℕ → ℕ → List ℕ
 date_form year month day hour minute second microseconds =
     let no_microseconds = microseconds == 0 in
@@ -22,12 +22,12 @@ date_form year month day hour minute second microseconds =
     if no_microseconds then 7 ∷ (day_bytes year month day ++ hour ∷ minute ∷ second ∷ []) else
     11 ∷ (day_bytes year month day ++ hour ∷ minute ∷ second ∷ little_bytes 4 microseconds)))
 
--- the sign of a time: 1 for a negative one
+-- the sign of a time: 1 if it is negative
 abbrev pub sign_byte : Bool → ℕ
 sign_byte negative = if negative then 1 else 0
 
--- A time: the number of bytes that follow, and the shortest of three forms whose missing fields
--- are all 0. The shortest has no sign.
+-- A time: the number of the bytes after the first, and the shortest of three forms in which all
+-- missing fields are 0. The shortest has no sign.
 abbrev pub time_form : Bool → ℕ → ℕ → ℕ → ℕ → ℕ → List ℕ
 time_form negative days hours minutes seconds microseconds =
     let no_microseconds = microseconds == 0 in

@@ -7,7 +7,7 @@ use Rattle.mysql_value_core.specs.declared.value.Value.TheVariants.{NULL, Bytes,
 use Rattle.mysql_value_core.specs.BinaryForm.{binary_form}
 use Rattle.mysql_value_core.specs.BinaryReading.{unsigned_integer, read_binary}
 
--- the type of a column that holds such values
+-- the type of a column that holds such a value
 abbrev pub own_column : Value → ColumnType
 own_column NULL = MYSQL_TYPE_NULL
 own_column (Bytes bytes) = MYSQL_TYPE_BLOB
@@ -18,13 +18,13 @@ own_column (Double bits) = MYSQL_TYPE_DOUBLE
 own_column (Date year month day hour minute second microseconds) = MYSQL_TYPE_DATETIME
 own_column (Time negative days hours minutes seconds microseconds) = MYSQL_TYPE_TIME
 
--- whether that column is unsigned: only that of a `UInt` is
+-- whether that column is unsigned, which is so only for a `UInt`
 abbrev pub own_column_is_unsigned : Value → Bool
 own_column_is_unsigned (UInt number) = true
 own_column_is_unsigned value = false
 
--- the value itself, except that `UInt` comes back as `Int` if that has the number, and a negative
--- time of zero as not negative
+-- the value itself, with two exceptions: a `UInt` comes back as an `Int` that has the number, if
+-- there is one, and a negative time of zero as one that isn't negative
 abbrev pub value_read_back : Value → Value
 value_read_back (UInt number) = unsigned_integer number
 value_read_back (Time negative days hours minutes seconds microseconds) =
@@ -33,7 +33,8 @@ value_read_back (Time negative days hours minutes seconds microseconds) =
     else Time negative days hours minutes seconds microseconds
 value_read_back value = value
 
--- before any bytes, the written value reads as the one that comes back and leaves these bytes
+-- before any bytes, the written value is read as the value that comes back, and these bytes are
+-- left
 abbrev pub ReadsBackInBinary : Value → Type 0
 ReadsBackInBinary value =
     (rest : List ℕ)

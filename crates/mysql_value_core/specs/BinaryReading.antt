@@ -1,5 +1,5 @@
--- How values in binary form are read, by the type of their column and by its unsigned flag
--- (MySQL client/server protocol, "Binary Protocol Value").
+-- Values read from their binary form, by the type of their column and by its unsigned flag (MySQL
+-- client/server protocol, "Binary Protocol Value").
 use Rattle.std.specs.Prelude.{ℕ, ◌^◌, nat_lt, Bool, true, false, ◌==◌, List, [], ◌∷◌, Ok, Err, pos, if◌then◌else◌}
 use Rattle.byteorder.specs.Endian.{little_number, twos_complement}
 use Rattle.mysql_wire_part.specs.Reading.{Reading, unsupported_column, read_bytes, read_number, map_read, and_then_read}
@@ -9,7 +9,7 @@ use Rattle.mysql_wire_part.specs.declared.column.ColumnType.TheVariants.{MYSQL_T
 use Rattle.mysql_value_core.specs.declared.value.Value.{Value}
 use Rattle.mysql_value_core.specs.declared.value.Value.TheVariants.{NULL, Bytes, Int, UInt, Float, Double, Date, Time}
 
--- a whole number without a sign: `Int` if that has the number, else `UInt`
+-- the value of a whole number without a sign: an `Int` if it has the number, or else a `UInt`
 abbrev pub unsigned_integer : ℕ → Value
 unsigned_integer number = if nat_lt number (2 ^ 63) then Int (pos number) else UInt number
 
@@ -18,8 +18,8 @@ abbrev pub integer_value : ℕ → Bool → ℕ → Value
 integer_value width true number = unsigned_integer number
 integer_value width false number = Int (twos_complement width number)
 
--- The date of these bytes. It has its day from 4 bytes on, its clock from 7 bytes on, and its
--- microseconds if there are exactly 11. What it does not have is 0.
+-- The date of these bytes. It has its day if there are at least 4 bytes, its clock if there are at
+-- least 7, and its microseconds if there are exactly 11. Missing fields are 0.
 abbrev pub date_value : List ℕ → Value
 date_value (y0 ∷ y1 ∷ month ∷ day ∷ hour ∷ minute ∷ second ∷ u0 ∷ u1 ∷ u2 ∷ u3 ∷ []) =
     Date (little_number 2 (y0 ∷ y1 ∷ [])) month day hour minute second
@@ -30,8 +30,8 @@ date_value (y0 ∷ y1 ∷ month ∷ day ∷ more) =
     Date (little_number 2 (y0 ∷ y1 ∷ [])) month day 0 0 0 0
 date_value fields = Date 0 0 0 0 0 0 0
 
--- The time of these bytes. It has all fields except its microseconds from 8 bytes on, and these if
--- there are exactly 12. What it does not have is 0. It is negative only if the sign is 1.
+-- The time of these bytes. It has its microseconds if there are exactly 12 bytes, and its other
+-- fields if there are at least 8. Missing fields are 0. It is negative only if the sign is 1.
 abbrev pub time_value : List ℕ → Value
 time_value (sign ∷ d0 ∷ d1 ∷ d2 ∷ d3 ∷ hours ∷ minutes ∷ seconds ∷ u0 ∷ u1 ∷ u2 ∷ u3 ∷ []) =
     Time (sign == 1) (little_number 4 (d0 ∷ d1 ∷ d2 ∷ d3 ∷ [])) hours minutes seconds
@@ -40,7 +40,7 @@ time_value (sign ∷ d0 ∷ d1 ∷ d2 ∷ d3 ∷ hours ∷ minutes ∷ seconds �
     Time (sign == 1) (little_number 4 (d0 ∷ d1 ∷ d2 ∷ d3 ∷ [])) hours minutes seconds 0
 time_value fields = Time false 0 0 0 0 0
 
--- a length byte and that many bytes, all of which are read
+-- a length byte, and as many of the next bytes as it says, all of which are read
 abbrev pub read_counted : List ℕ → Reading (List ℕ)
 read_counted bytes = and_then_read (read_number 1 bytes) read_bytes
 
@@ -61,7 +61,7 @@ read_date bytes = map_read date_value (read_counted bytes)
 abbrev pub read_time : List ℕ → Reading Value
 read_time bytes = map_read time_value (read_counted bytes)
 
--- a value of each column type; values of five types are not read
+-- a value of each column type; values of five types can't be read
 abbrev pub read_binary : ColumnType → Bool → List ℕ → Reading Value
 read_binary MYSQL_TYPE_STRING unsigned bytes = read_bytes_value bytes
 read_binary MYSQL_TYPE_VAR_STRING unsigned bytes = read_bytes_value bytes

@@ -1,11 +1,11 @@
--- Borrowed values: which owned value says the same.
+-- The owned values of borrowed values.
 use Rattle.std.specs.Prelude.{List, map}
 use Rattle.mysql_value_core.specs.declared.value.Value.{Value}
 use Rattle.mysql_value_core.specs.declared.value.Value.TheVariants.{NULL, Bytes, Int, UInt, Float, Double, Date, Time}
 use Rattle.mysql_value_core.specs.declared.value.ValueRef.{ValueRef}
 use Rattle.mysql_value_core.specs.declared.value.ValueRef.TheVariants as borrowed
 
--- the value that a borrowed one says: the same variant, of the same bytes or fields
+-- the owned value of a borrowed one: the same variant, with the same bytes or fields
 abbrev pub owned : ValueRef → Value
 owned borrowed.NULL = NULL
 owned (borrowed.Bytes bytes) = Bytes bytes.now
@@ -18,6 +18,6 @@ owned (borrowed.Date year month day hour minute second microseconds) =
 owned (borrowed.Time negative days hours minutes seconds microseconds) =
     Time negative days hours minutes seconds microseconds
 
--- the values that a list of borrowed ones says, in order
+-- the owned values of a list of borrowed ones, in order
 abbrev pub owned_values : List ValueRef → List Value
 owned_values values = map owned values

@@ -9,8 +9,8 @@ use Rattle.mysql_value_core.specs.declared.value.Value.TheVariants.{Time}
 abbrev pub rounded_microseconds : Duration → ℕ
 rounded_microseconds duration = (as_nanos duration + 500) / 1000
 
--- the time of these whole seconds and microseconds, carried into seconds and minutes below 60,
--- hours below 24 and days; or the duration, if 32 bits don't hold the days
+-- The time of these seconds and microseconds, with seconds and minutes below 60, hours below 24,
+-- and days. If 32 bits don't hold the days, the duration.
 abbrev pub carried_time : Duration → ℕ → ℕ → Meaning
 carried_time duration seconds microseconds =
     if nat_lt (seconds / 86400) (2 ^ 32)
@@ -18,7 +18,7 @@ carried_time duration seconds microseconds =
     microseconds)
     else Err duration
 
--- the time of the rounded duration, or the duration itself if 32 bits do not hold its days
+-- the time of the rounded duration, or the duration itself if 32 bits don't hold its days
 abbrev pub duration_value : Duration → Meaning
 duration_value duration =
     carried_time duration (rounded_microseconds duration / 1000000)

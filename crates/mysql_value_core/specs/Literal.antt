@@ -1,13 +1,13 @@
--- The SQL literal of a value (MySQL Reference Manual, "Literal Values"), of the texts that
--- mysql_sql_text defines. A mode is the flag `no_backslash_escape`: `true` is the mode without
--- backslash escapes.
+-- The SQL literal of a value (MySQL Reference Manual, "Literal Values"), by the texts of
+-- mysql_sql_text. A mode is the flag `no_backslash_escape`: `true` is the mode without backslash
+-- escapes.
 use Rattle.std.specs.Prelude.{ℕ, Bool, true, false, List, [], codes, Option, Some, None, unwrap_or}
 use Rattle.std.specs.Fmt.{decimal, signed_decimal}
 use Rattle.mysql_sql_text.specs.LiteralParts.{bytes_literal, date_text, quoted, time_text}
 use Rattle.mysql_value_core.specs.declared.value.Value.{Value}
 use Rattle.mysql_value_core.specs.declared.value.Value.TheVariants.{NULL, Bytes, Int, UInt, Float, Double, Date, Time}
 
--- the literal of a value; floats have none
+-- the literal of a value; a float has none
 abbrev pub literal_of : Bool → Value → Option (List ℕ)
 literal_of mode NULL = Some (codes "NULL")
 literal_of mode (Bytes bytes) = Some (bytes_literal mode bytes)
@@ -20,7 +20,7 @@ literal_of mode (Date year month day hour minute second microseconds) =
 literal_of mode (Time negative days hours minutes seconds microseconds) =
     Some (quoted (time_text negative days hours minutes seconds microseconds))
 
--- the bytes of that literal; no bytes for a float, which has none
+-- the bytes of this literal; none for a float
 abbrev pub literal_text : Bool → Value → List ℕ
 literal_text mode value = unwrap_or (literal_of mode value) []
 

@@ -16,19 +16,19 @@ read_cell [] = Err unexpected_eof
 read_cell (lead ∷ bytes) =
     if lead == null_cell then Ok (NULL, bytes) else map_read Bytes (read_lenenc (lead ∷ bytes))
 
--- `count` cells, one after another, or the refusal of the first that has one
+-- `count` cells, one after another, or the refusal of the first cell that has one
 abbrev pub read_cells : ℕ → List ℕ → Reading (List Value)
 read_cells zero bytes = Ok ([], bytes)
 read_cells (suc count) bytes =
     and_then_read (read_cell bytes) (λ cell rest.
     map_read (λ cells. cell ∷ cells) (read_cells count rest))
 
--- the value that is read is bytes: making one allocates, and no other kind does
+-- the value that is read is bytes; only bytes allocate
 abbrev pub ReadsBytes : Reading Value → Type 0
 ReadsBytes (Ok read) = IsBytes read.0
 ReadsBytes (Err refusal) = ⊥
 
--- the first of at least one cell can be read: only then is there anything to allocate
+-- there is a first cell, and it can be read; only then something may be allocated
 abbrev pub ReadsACell : ℕ → List ℕ → Type 0
 ReadsACell zero bytes = ⊥
 ReadsACell (suc count) bytes = IsOk (read_cell bytes)

@@ -1,11 +1,11 @@
--- Values of the MySQL client/server protocol: which are bytes, and the ranges of the fields.
+-- Values of the MySQL client/server protocol: those that are bytes, and the ranges of the fields.
 use Rattle.std.specs.Prelude.{◌<◌, ◌^◌, FitsSigned, ⊤}
 use Rattle.std.specs.Int.{w64}
 use Rattle.mysql_value_core.specs.Bytes.{AreBytes}
 use Rattle.mysql_value_core.specs.declared.value.Value.{Value}
 use Rattle.mysql_value_core.specs.declared.value.Value.TheVariants.{NULL, Bytes, Int, UInt, Float, Double, Date, Time}
 
--- the value is bytes: making one allocates, and no other kind does
+-- the value is bytes; only a value of bytes allocates
 abbrev pub IsBytes : Value → Type 0
 IsBytes (Bytes bytes) = ⊤
 IsBytes _ = ⊥

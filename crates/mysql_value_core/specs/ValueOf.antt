@@ -1,4 +1,4 @@
--- The values of the types of Rust.
+-- The values of Rust types.
 use Rattle.std.specs.Prelude.{ℕ, ◌-◌, ◌^◌, ℤ, pos, negsuc, int_lt, int_le, unsigned_abs, nat_lt, ◌&&◌, Bool, true, false, if◌then◌else◌, List, Option, None, Some, Result, Ok, Err}
 use Rattle.std.specs.Fmt.{decimal, signed_decimal}
 use Rattle.std.specs.declared.time.Duration.{Duration}
@@ -12,7 +12,7 @@ use Rattle.mysql_value_core.specs.declared.value.convert.ToValueError.TheVariant
 abbrev pub Meaning : Type 0
 Meaning = Result Value Duration
 
--- the value is bytes: making one allocates, and no other kind does
+-- the value is bytes; only a value of bytes allocates
 abbrev pub MeansBytes : Meaning → Type 0
 MeansBytes (Ok value) = IsBytes value
 MeansBytes (Err duration) = ⊥
@@ -55,11 +55,11 @@ abbrev pub bool_value : Bool → Meaning
 bool_value true = Ok (Int (pos 1))
 bool_value false = Ok (Int (pos 0))
 
--- the value of bytes, and of a text
+-- the value of bytes, or of a text
 abbrev pub bytes_value : List ℕ → Meaning
 bytes_value bytes = Ok (Bytes bytes)
 
--- the value of an option, by that of what it holds: NULL stands for none
+-- the value of an option: that of its content, or NULL for none
 abbrev pub option_value : {T : Type 0} → (T → Meaning) → Option T → Meaning
 option_value value_of None = Ok NULL
 option_value value_of (Some argument) = value_of argument

@@ -1,5 +1,5 @@
--- The order of values: by variant, in the sequence in which the type lists them, and then by the
--- fields, from the first on. The bits of a float are compared as a number.
+-- The order of values: by variant, as the type lists them, and then by the fields, from the first
+-- on. The bits of a float are compared as a number.
 use Rattle.std.specs.Prelude.{ℕ}
 use Rattle.std.specs.declared.cmp.Ordering.{Ordering}
 use Rattle.std.specs.Ordering.{nat_cmp, int_cmp, bool_cmp, ordering_then}
@@ -7,7 +7,7 @@ use Rattle.std.specs.Cmp.Lexicographic.{slice_cmp}
 use Rattle.mysql_value_core.specs.declared.value.Value.{Value}
 use Rattle.mysql_value_core.specs.declared.value.Value.TheVariants.{NULL, Bytes, Int, UInt, Float, Double, Date, Time}
 
--- the index of a value's variant in the sequence
+-- the index of a value's variant in this list
 abbrev pub variant_index : Value → ℕ
 variant_index NULL = 0
 variant_index (Bytes bytes) = 1
@@ -18,7 +18,7 @@ variant_index (Double bits) = 5
 variant_index (Date year month day hour minute second microseconds) = 6
 variant_index (Time negative days hours minutes seconds microseconds) = 7
 
--- how two values compare
+-- the comparison of two values
 abbrev pub value_cmp : Value → Value → Ordering
 value_cmp (Bytes bytes) (Bytes bytes') = slice_cmp nat_cmp bytes bytes'
 value_cmp (Int number) (Int number') = int_cmp number number'

@@ -1,5 +1,5 @@
--- Which value each type of Rust has. The `to_value` of the type cites its row. A row takes what
--- contracts see of the argument: bytes and texts are seen as the list of their bytes.
+-- The value of each Rust type. The `to_value` of the type cites its row. A row takes the view that
+-- contracts have of the argument: for bytes and texts it is the list of their bytes.
 use Rattle.std.specs.Prelude.{ℕ, ℤ, Bool, List, Option, Ok}
 use Rattle.std.specs.declared.time.Duration.{Duration}
 use Rattle.mysql_value_core.specs.declared.value.Value.{Value}

@@ -1,5 +1,4 @@
-//! Laws of the types of this crate. A program calls one only for what it ensures, if a proof needs
-//! it.
+//! Laws about the types of this crate. A law is called only for its `ensures`, if a proof needs it.
 ghost use Rattle.std.specs.Prelude.{◌≡◌, ◌↔◌, IsTrue, None, Some};
 ghost use Rattle.std.specs.Cmp.{IsTotalOrder};
 ghost use Rattle.std.specs.Cmp.Lexicographic.{slice_cmp};
@@ -31,7 +30,7 @@ pub use rows::{binary_row_error_equality, binary_rows_read_back, spare_null_bits
 use std::alloc::Global;
 use std::cmp::Ordering;
 
-/// Bytes are equal if and only if the lists are.
+/// Bytes are equal if and only if their lists are equal.
 pub fn bytes_equality(a: &Bytes, b: &Bytes) -> bool
     ensures same { IsTrue result ↔ (a.now ≡ b.now) }
     ensures member { result ≡ ⟦<Bytes as PartialEq>⟧.eq a.now b.now }
@@ -39,7 +38,7 @@ pub fn bytes_equality(a: &Bytes, b: &Bytes) -> bool
     a == b
 }
 
-/// Bytes are ordered as lists are: by the first byte that differs, a prefix before the whole.
+/// Bytes are ordered like lists: by the first byte that differs. A prefix comes before the whole.
 pub fn bytes_order(a: &Bytes, b: &Bytes) -> Ordering
     ensures order { result ≡ slice_cmp nat_cmp a.now b.now }
     ensures member { result ≡ ⟦<Bytes as Ord>⟧.cmp a.now b.now }
@@ -47,7 +46,7 @@ pub fn bytes_order(a: &Bytes, b: &Bytes) -> Ordering
     a.cmp(b)
 }
 
-/// Values are equal if and only if variant and fields are.
+/// Values are equal if and only if variant and fields are equal.
 pub fn value_equality(a: &Value, b: &Value) -> bool
     ensures same { IsTrue result ↔ (a.now ≡ b.now) }
     ensures member { result ≡ ⟦<Value as PartialEq>⟧.eq a.now b.now }
@@ -63,7 +62,7 @@ pub fn value_order(a: &Value, b: &Value) -> Ordering
     a.cmp(b)
 }
 
-/// Any two values have an order, and it is that of `cmp`.
+/// Any two values have an order: that of `cmp`.
 pub fn value_partial_order(a: &Value, b: &Value) -> Option<Ordering>
     ensures order { result ≡ Some (value_cmp a.now b.now) }
     ensures member { result ≡ ⟦<Value as PartialOrd>⟧.partial_cmp a.now b.now }
@@ -71,7 +70,7 @@ pub fn value_partial_order(a: &Value, b: &Value) -> Option<Ordering>
     a.partial_cmp(b)
 }
 
-/// Refused conversions are equal if and only if the values that they hold are.
+/// Refused conversions are equal if and only if their values are equal.
 pub fn from_value_error_equality(a: &FromValueError, b: &FromValueError) -> bool
     ensures same { IsTrue result ↔ (a.now ≡ b.now) }
     ensures member { result ≡ ⟦<FromValueError as PartialEq>⟧.eq a.now b.now }
@@ -79,7 +78,7 @@ pub fn from_value_error_equality(a: &FromValueError, b: &FromValueError) -> bool
     a == b
 }
 
-/// Errors of `ToValue` are equal if and only if variant and fields are.
+/// Errors of `ToValue` are equal if and only if variant and fields are equal.
 pub fn to_value_error_equality(a: &ToValueError, b: &ToValueError) -> bool
     ensures same { IsTrue result ↔ (a.now ≡ b.now) }
     ensures member { result ≡ ⟦<ToValueError as PartialEq>⟧.eq a.now b.now }
@@ -87,13 +86,14 @@ pub fn to_value_error_equality(a: &ToValueError, b: &ToValueError) -> bool
     a == b
 }
 
-/// The order of values is total and transitive, and `Equal` if and only if they are equal.
+/// The order of values is total and transitive, and it is `Equal` if and only if the values are
+/// equal.
 pub fn value_order_is_total()
     ensures total { IsTotalOrder value_cmp }
     ensures equal { (a b : value.Value) → (value_cmp a b ≡ Equal) ↔ (a ≡ b) }
 {}
 
-/// The value of an object is the one that its own type names.
+/// The value of an object is the value that its own type gives.
 pub fn object_value(alloc: Global, object: &dyn ToValue) -> Result<Value, ToValueError>
     ensures value { IsAnswer (λ value. value) too_long_duration
         (value_of object.now) (MeansBytes (value_of object.now)) result }
@@ -101,7 +101,7 @@ pub fn object_value(alloc: Global, object: &dyn ToValue) -> Result<Value, ToValu
     object.to_value(alloc)
 }
 
-/// Neither form of a value has the same number of bytes for all values.
+/// Values don't have a fixed number of bytes, neither in text form nor in binary form.
 pub fn sizes_of_readings()
     ensures text { ⟦<ValueDeserializer<TextValue> as MyDeserialize<'static>>⟧.SIZE ≡ None }
     ensures binary { ⟦<ValueDeserializer<BinValue> as MyDeserialize<'static>>⟧.SIZE ≡ None }
@@ -115,7 +115,7 @@ pub fn server_side_equality(a: &ServerSide, b: &ServerSide) -> bool
     a == b
 }
 
-/// Null bitmaps of a server begin with two bits that say nothing, those of a client with none.
+/// Null bitmaps of a server begin with two unused bits, and those of a client with none.
 pub fn null_bitmap_offsets()
     ensures server { ⟦<ServerSide as SerializationSide>⟧.BIT_OFFSET ≡ 2 }
     ensures client { ⟦<ClientSide as SerializationSide>⟧.BIT_OFFSET ≡ 0 }

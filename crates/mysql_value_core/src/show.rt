@@ -1,10 +1,10 @@
-//! How bytes and values are shown for debugging and in messages. `Shown` serves the crates
-//! above, whose messages show names.
+//! Bytes and values as text, for debugging and in messages. `Shown` is also for the crates above,
+//! whose messages have names.
 use crate::value::{Value, ValueRef};
 use std::fmt;
 
-/// Bytes that are shown: those from 32 to 126 other than `"` and `\` as themselves, and each other
-/// byte as `\x` and two lower-case hexadecimal digits.
+/// Bytes as text. The bytes 32 to 126 except `"` and `\` are shown as they are. Each other byte is
+/// shown as `\x` and two lower-case hexadecimal digits.
 #[derive(Clone, Copy)]
 pub struct Shown<'a>(pub &'a [u8]);
 
@@ -22,7 +22,7 @@ impl fmt::Display for Shown<'_> {
     }
 }
 
-/// At most the first eight of some bytes, in double quotes; two dots say that there are more.
+/// At most the first eight bytes, in double quotes. If there are more, two dots follow them.
 #[derive(Drop)]
 pub(crate) struct Quoted<'a>(pub &'a [u8]);
 
@@ -37,15 +37,15 @@ impl fmt::Debug for Quoted<'_> {
     }
 }
 
-/// The variant and its fields. Floats show their bits in decimal; dates and times show their SQL
-/// text in double quotes.
+/// Shows the variant and its fields. A float is shown as its bits in decimal. A date or a time is
+/// shown as its SQL text in double quotes.
 impl fmt::Debug for Value {
     fn fmt<W: fmt::Write>(&self, f: &mut fmt::Formatter<W>) -> fmt::Result {
         write!(f, "{:?}", self.borrowed())
     }
 }
 
-/// As [`Value`] is shown.
+/// Shows the same text as [`Value`].
 impl fmt::Debug for ValueRef<'_> {
     fn fmt<W: fmt::Write>(&self, f: &mut fmt::Formatter<W>) -> fmt::Result {
         match self {

@@ -1,4 +1,4 @@
-//! Values as the protocol has them, owned and borrowed, and the bytes that they hold.
+//! Values of the protocol, owned and borrowed, and the bytes that they hold.
 ghost use Rattle.std.specs.Prelude.{◌≡◌, IfOk, OnErr, nat_eq};
 ghost use Rattle.std.specs.Cmp.Lexicographic.{pointwise, slice_cmp};
 ghost use Rattle.std.specs.Cmp.{partial_order_from_own_ties};
@@ -35,9 +35,9 @@ use std::marker::{Model, PhantomData};
 /// A value of the MySQL client/server protocol.
 ///
 /// `Float` and `Double` hold the bits of the number. The fields of `Date` are year, month, day,
-/// hour, minute, second and microseconds; those of `Time` are whether it is negative, days, hours,
-/// minutes, seconds and microseconds. Equality is of variant and fields. The order is by variant,
-/// in the sequence in which they stand here, and then by the fields.
+/// hour, minute, second and microseconds. The fields of `Time` are a flag for negative, days,
+/// hours, minutes, seconds and microseconds. Values are equal if variant and fields are equal. The
+/// order is by variant, as listed here, and then by the fields.
 #[derive(PartialEq, Eq, PartialOrd, Ord, Drop)]
 pub enum Value {
     NULL,
@@ -51,7 +51,7 @@ pub enum Value {
 }
 
 impl Value {
-    /// A copy of the value. Only that of `Bytes` allocates, on the allocator that they hold.
+    /// A copy of the value. Only a copy of `Bytes` allocates, on the allocator of the bytes.
     pub fn clone(&self) -> Result<Value, AllocError>
         ensures equal { IfOk result (λ copy. copy ≡ self.now) }
         ensures memory { OnErr result (IsBytes self.now) }
@@ -75,7 +75,8 @@ impl Value {
         }
     }
 
-    // It reads each field and does nothing: a proof reads here that all are in their ranges.
+    // It reads each field and does nothing. It lets a proof use that all fields are in their
+    // ranges.
     pub(crate) fn fields_in_range(&self)
         ensures { FieldsInRange self.now }
     {
@@ -106,11 +107,12 @@ impl Value {
     }
 }
 
-/// A value that is read from the form that `T` names: `TextValue` or `BinValue`.
+/// A value that was read from the form `T`: `TextValue` or `BinValue`.
 #[derive(Drop)]
 pub struct ValueDeserializer<T>(pub Value, PhantomData<T>);
 
-/// What the containers of the standard library copy their items by: the inherent `clone`.
+/// The same as the inherent `clone`, for the containers of the standard library, which copy their
+/// items by it.
 impl Clone for Value {
     ghost is_clone = { λ value copy. copy ≡ value };
 
@@ -122,9 +124,9 @@ impl Clone for Value {
     }
 }
 
-/// A value of the MySQL client/server protocol whose bytes are borrowed: a [`Value`] of the same
-/// variant with the same fields. It is copied without memory. Equality and order are those of the
-/// values.
+/// A value of the MySQL client/server protocol whose bytes are borrowed. It is a [`Value`] of the
+/// same variant with the same fields. A copy of it takes no memory. Equality and order are those of
+/// the values.
 #[derive(Clone, Copy, PartialEq, Eq, PartialOrd, Ord)]
 pub enum ValueRef<'v> {
     NULL,
@@ -139,8 +141,9 @@ pub enum ValueRef<'v> {
 
 impl Value {
     /// The same value, borrowed. No bytes are copied.
-    // Inline, since it stands before each call that takes borrowed values. What is rare is lent by
-    // a call: the many small fields of dates would be taken apart for each value.
+    // Inline, since it comes before each call that takes borrowed values. The rare variants are
+    // borrowed by a call: otherwise the many small fields of dates would be taken apart for each
+    // value.
     #[inline(always)]
     pub fn borrowed(&self) -> ValueRef<'_>
         ensures same { owned result ≡ self.now }
@@ -177,7 +180,7 @@ impl Value {
 }
 
 impl<'v> ValueRef<'v> {
-    /// The same value, of its own bytes. Only that of `Bytes` allocates.
+    /// The same value with bytes of its own. Only `Bytes` allocates.
     pub fn to_value(self, alloc: Global) -> Result<Value, AllocError>
         ensures same { IfOk result (λ value. value ≡ owned self.entry) }
         ensures memory { OnErr result (IsBytes (owned self.entry)) }
@@ -201,7 +204,8 @@ impl<'v> ValueRef<'v> {
         }
     }
 
-    // It reads each field and does nothing: a proof reads here that all are in their ranges.
+    // It reads each field and does nothing. It lets a proof use that all fields are in their
+    // ranges.
     pub(crate) fn fields_in_range(self)
         ensures { FieldsInRange (owned self.entry) }
     {
@@ -230,15 +234,15 @@ impl<'v> ValueRef<'v> {
     }
 }
 
-// It does nothing: a proof reads here that the items are bytes.
+// It does nothing. It lets a proof use that the items are bytes.
 fn read_bytes(bytes: &[u8])
     ensures { AreBytes bytes.now }
 {
     let _bytes = bytes;
 }
 
-/// Bytes that a value holds: a vector, which contracts see as the list of its bytes.
-/// It is made from a `Vec<u8>` and gives it back, and neither allocates.
+/// The bytes of a value: a vector, which contracts see as the list of its bytes. It is made from a
+/// `Vec<u8>` and converts back to it. Neither conversion allocates.
 #[derive(Drop)]
 pub struct Bytes {
     items: Vec<u8>,
@@ -261,7 +265,7 @@ impl Bytes {
         bytes_in_range(self.items.as_slice())
     }
 
-    /// A copy of the bytes, on the allocator of these.
+    /// A copy of the bytes, on their own allocator.
     pub fn clone(&self) -> Result<Bytes, AllocError>
         ensures equal { IfOk result (λ copy. copy ≡ self.now) }
     {
@@ -270,7 +274,7 @@ impl Bytes {
     }
 }
 
-// The same slice: a proof reads here that its items are bytes.
+// The same slice. It lets a proof use that its items are bytes.
 fn bytes_in_range(bytes: &[u8]) -> &[u8]
     ensures same { result.now ≡ bytes.now }
     ensures range { AreBytes bytes.now }
@@ -334,7 +338,7 @@ impl Ord for Bytes {
     }
 }
 
-/// At most the first eight bytes, in double quotes; two dots say that there are more.
+/// Shows at most the first eight bytes, in double quotes. If there are more, two dots follow them.
 impl fmt::Debug for Bytes {
     fn fmt<W: fmt::Write>(&self, f: &mut fmt::Formatter<W>) -> fmt::Result {
         write!(f, "{:?}", Quoted(self.as_slice()))

@@ -1,5 +1,5 @@
-//! Laws of borrowed values: their equality and their order are those of the values that they say,
-//! and so are the ranges of their fields and the shape of their literals.
+//! Laws about borrowed values. Their equality, their order, the ranges of their fields and the
+//! shape of their literals are those of the owned values.
 ghost use Rattle.std.specs.Prelude.{◌≡◌, ◌↔◌, Bool, IfSome, IsTrue, Some};
 ghost use Rattle.mysql_value_core.specs.BorrowedValue.{owned};
 ghost use Rattle.mysql_value_core.specs.Literal.{literal_of};
@@ -10,7 +10,7 @@ ghost use Rattle.mysql_sql_text.specs.LiteralShape.{IsLiteral};
 use crate::value::ValueRef;
 use std::cmp::Ordering;
 
-/// Borrowed values are equal if and only if the owned ones are.
+/// Borrowed values are equal if and only if their owned values are equal.
 pub fn borrowed_equality(a: &ValueRef<'_>, b: &ValueRef<'_>) -> bool
     ensures same { IsTrue result ↔ (owned a.now ≡ owned b.now) }
     ensures member { result ≡ ⟦<ValueRef<'static> as PartialEq>⟧.eq a.now b.now }
@@ -18,7 +18,7 @@ pub fn borrowed_equality(a: &ValueRef<'_>, b: &ValueRef<'_>) -> bool
     a == b
 }
 
-/// Borrowed values are ordered as the owned ones.
+/// Borrowed values are ordered like their owned values.
 pub fn borrowed_order(a: &ValueRef<'_>, b: &ValueRef<'_>) -> Ordering
     ensures order { result ≡ value_cmp (owned a.now) (owned b.now) }
     ensures member { result ≡ ⟦<ValueRef<'static> as Ord>⟧.cmp a.now b.now }
@@ -26,7 +26,7 @@ pub fn borrowed_order(a: &ValueRef<'_>, b: &ValueRef<'_>) -> Ordering
     a.cmp(b)
 }
 
-/// Any two borrowed values have an order, and it is that of `cmp`.
+/// Any two borrowed values have an order: that of `cmp`.
 pub fn borrowed_partial_order(a: &ValueRef<'_>, b: &ValueRef<'_>) -> Option<Ordering>
     ensures order { result ≡ Some (value_cmp (owned a.now) (owned b.now)) }
     ensures member { result ≡ ⟦<ValueRef<'static> as PartialOrd>⟧.partial_cmp a.now b.now }

@@ -1,4 +1,4 @@
-//! Values in binary form: of rows and of a statement's parameters.
+//! Values in binary form, in rows and in a statement's parameters.
 ghost use Rattle.std.specs.Prelude.{◌≡◌, ◌≤◌, ◌++◌, length, None, IsOk, OnOk, OnErr};
 ghost use Rattle.mysql_wire_part.specs.Reading.{read_number, map_read};
 ghost use Rattle.mysql_wire_part.specs.Answer.{IsAnswer};
@@ -20,12 +20,12 @@ use mysql_wire_part::{
 use std::alloc::{AllocError, Global};
 use std::marker::PhantomData;
 
-/// The binary form of a value, which the type of its column and its unsigned flag decide.
+/// The binary form of a value. It depends on the type and the unsigned flag of its column.
 #[derive(Drop)]
 pub struct BinValue;
 
 impl Value {
-    /// The number of bytes of the binary form.
+    /// The number of bytes of the value's binary form.
     pub fn bin_len(&self) -> u64
         ensures count { result ≡ length (binary_form self.now) }
     {
@@ -47,7 +47,7 @@ impl Value {
 impl MySerialize for Value {
     ghost spelling = { binary_form };
 
-    /// Appends the binary form, whole or not at all.
+    /// Appends the binary form, as a whole or not at all.
     #[tactic(auto, using(crate::proofs::BinaryLemmas::reads_back_in_binary))]
     fn serialize(&self, buf: &mut Vec<u8>) -> Result<(), AllocError>
         ensures appended { OnOk result (buf.new.items ≡ buf.old.items ++ binary_form self.now) }
@@ -175,7 +175,7 @@ impl<'de> MyDeserialize<'de> for ValueDeserializer<BinValue> {
         ctx: (ColumnType, ColumnFlags),
         buf: &mut ParseBuf<'de>,
     ) -> Result<Self, WireError>
-        // Only reading bytes allocates, so nothing else returns out of memory.
+        // Only the read of bytes allocates, so no other read is out of memory.
         ensures read { IsAnswer (λ read. (read.0, left buf.new)) read_refusal
             (read_binary ctx.0 (is_unsigned ctx.1) (left buf.old))
             (ReadsBytes (read_binary ctx.0 (is_unsigned ctx.1) (left buf.old))) result }
@@ -189,8 +189,8 @@ impl<'de> MyDeserialize<'de> for ValueDeserializer<BinValue> {
     }
 }
 
-// The value at the front of the buffer, read by the type of its column. After an error any bytes of
-// it may have been taken off.
+// The value at the front of the buffer, read by the type of its column. After an error, some of the
+// buffer's bytes may have been taken off.
 fn eat_binary(
     alloc: Global,
     column: ColumnType,
@@ -237,7 +237,7 @@ fn eat_binary(
     }
 }
 
-// A length-encoded string, copied.
+// A copy of a length-encoded string.
 fn eat_string(alloc: Global, buf: &mut ParseBuf<'_>) -> Result<Value, WireError>
     ensures read { IsAnswer (λ value. (value, left buf.new)) read_refusal
         (read_bytes_value (left buf.old)) (ReadsBytes (read_bytes_value (left buf.old))) result }
@@ -286,7 +286,7 @@ fn eat_double(buf: &mut ParseBuf<'_>) -> Result<Value, WireError>
     Ok(Value::Double(bits))
 }
 
-/// A length byte and that many bytes, which are returned.
+/// Takes a length byte off the buffer, and returns that many of the next bytes.
 pub(super) fn eat_counted<'a>(buf: &mut ParseBuf<'a>) -> Result<&'a [u8], WireError>
     ensures read { IsAnswer (λ fields. (fields.now, left buf.new)) read_refusal
         (read_counted (left buf.old)) ⊥ result }

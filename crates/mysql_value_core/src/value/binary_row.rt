@@ -12,14 +12,14 @@ use mysql_wire_part::{ColumnFlags, ColumnType, ParseBuf, WireError};
 use std::alloc::AllocError;
 use thiserror::Error;
 
-// The byte that a row begins with.
+// The first byte of a row.
 const ROW_HEADER: u8 = 0;
 
-/// Why no row in binary form was read. The buffer is then as before the call.
+/// The cause for which a row in binary form wasn't read. The buffer is unchanged.
 #[derive(Debug, PartialEq, Drop, Error)]
 pub enum BinaryRowError {
-    /// The first byte is this one, and that of a row is 0: FE and FF begin the packets that end the
-    /// rows or break them off.
+    /// The first byte of the row, which isn't 0. FE and FF begin the packets that end the rows or
+    /// break them off.
     #[error("Bad row header {0}")]
     BadHeader(u8),
     /// The header, the bitmap or a value can't be read, or memory for the cells was refused.
@@ -37,13 +37,13 @@ impl From<WireError> for BinaryRowError {
     }
 }
 
-/// Which columns of a row in binary form are NULL.
+/// The columns of a row in binary form that are NULL.
 #[derive(Clone, Copy)]
 pub struct NullBitmap<'b>(&'b [u8]);
 
 impl NullBitmap<'_> {
-    /// Whether the column of this index is NULL. If the row has no such column, it is what the
-    /// bitmap's spare bits say.
+    /// Whether the column with this index is NULL. If the row has no such column, the result is a
+    /// spare bit of the bitmap.
     pub fn is_null(self, index: usize) -> bool
         ensures bit { result ≡ is_null_column (bitmap_bytes self.entry) index }
     {
@@ -55,9 +55,9 @@ impl NullBitmap<'_> {
     }
 }
 
-/// Takes the header and the bitmap of a row of `count` columns off the buffer. The values follow
-/// there: [`read_binary_value`] reads that of each column which isn't NULL. So a row is read
-/// without memory, also if the packets come one after another in one buffer.
+/// Takes the header and the bitmap of a row of `count` columns off the buffer. The values follow in
+/// the buffer: read the value of each column that isn't NULL with [`read_binary_value`]. So a row
+/// is read without memory, even if the packets come one after another in one buffer.
 ///
 /// After an error the buffer is unchanged.
 pub fn read_null_bitmap<'b>(
@@ -83,22 +83,23 @@ pub fn read_null_bitmap<'b>(
     Ok(NullBitmap(bitmap))
 }
 
-/// Reads a row in binary form into a vector, in place of what it holds: one cell for each column,
-/// whose type and flags are given. So row after row can be read into one vector, and nothing is
-/// copied. It allocates only if the vector has no room for so many cells.
+/// Reads a row in binary form into a vector, and replaces the vector's cells: one cell for each
+/// column of `columns`. So many rows can be read into one vector, one after another, and nothing is
+/// copied. It allocates only if the vector's capacity is too small for the cells.
 ///
-/// A row begins with its header and is the whole packet; what follows its last value is left in the
-/// buffer. A column whose bit is set is NULL, whatever its type is; bits that belong to no column
-/// are not looked at. On each error the buffer is unchanged, and the vector may hold any cells.
+/// A row begins with its header and is the whole packet. Bytes after its last value are left in the
+/// buffer. A column whose bit is set is NULL, whatever its type is. Bits that belong to no column
+/// are ignored. On an error the buffer is unchanged, and the vector may hold any cells.
 ///
-/// All rows that go into one vector have to live as long as it. If each packet comes into the
-/// buffer of the one before, take [`read_null_bitmap`].
+/// All rows that are read into one vector have to live as long as the vector. If each packet
+/// overwrites the buffer of the packet before it, use [`read_null_bitmap`].
 pub fn read_binary_cells_into<'b>(
     columns: &[(ColumnType, ColumnFlags)],
     buf: &mut ParseBuf<'b>,
     cells: &mut Vec<ValueRef<'b>>,
 ) -> Result<(), BinaryRowError>
-    // It may be out of memory only if the vector has no room, and once the bitmap is read.
+    // It can be out of memory only if the vector's capacity is too small and the bitmap can be
+    // read.
     ensures read { IsAnswer (λ _. (owned_values cells.new.items, left buf.new)) row_refusal
         (read_row columns.now (left buf.old)) ((vec_capacity cells.old < length columns.now)
         × IsOk (read_bitmap (length columns.now) (left buf.old))) result }
@@ -112,7 +113,7 @@ pub fn read_binary_cells_into<'b>(
     Ok(())
 }
 
-// The values of the columns. After an error any of them may have been taken off.
+// The values of the columns. After an error, some of the buffer's bytes may have been taken off.
 fn eat_columns<'b>(
     columns: &[(ColumnType, ColumnFlags)],
     bitmap: NullBitmap<'b>,

@@ -1,7 +1,7 @@
-//! Borrowed values in binary form, which is that of the values that they say.
+//! Borrowed values in binary form. The form is that of the owned values.
 //!
-//! These calls stand beside those of [`Value`](crate::value::Value), whose bodies they have: a
-//! value that is lent or copied first takes longer.
+//! These calls have the same bodies as those of [`Value`](crate::value::Value). It would take
+//! longer to borrow or copy a value first.
 ghost use Rattle.std.specs.Prelude.{◌≡◌, ◌≤◌, ◌++◌, length, IsOk, OnOk, OnErr};
 ghost use Rattle.mysql_wire_part.specs.Reading.{read_number, map_read};
 ghost use Rattle.mysql_wire_part.specs.Answer.{IsAnswer};
@@ -24,7 +24,7 @@ use mysql_wire_part::{
 use std::alloc::AllocError;
 
 impl ValueRef<'_> {
-    /// The number of bytes of the binary form.
+    /// The number of bytes of the value's binary form.
     pub fn bin_len(self) -> u64
         ensures count { result ≡ length (binary_form (owned self.entry)) }
     {
@@ -46,7 +46,7 @@ impl ValueRef<'_> {
 impl MySerialize for ValueRef<'_> {
     ghost spelling = { λ value. binary_form (owned value) };
 
-    /// Appends the binary form, whole or not at all.
+    /// Appends the binary form, as a whole or not at all.
     #[tactic(auto, using(crate::proofs::BinaryLemmas::reads_back_in_binary))]
     fn serialize(&self, buf: &mut Vec<u8>) -> Result<(), AllocError>
         ensures appended { OnOk result
@@ -94,8 +94,9 @@ impl MySerialize for ValueRef<'_> {
     }
 }
 
-/// The value at the front of the buffer, read by the type of its column and its flags, whose bytes
-/// are those of the buffer: nothing is copied. After an error the buffer is unchanged.
+/// Reads the value at the front of the buffer by the type of its column and its flags. The value
+/// borrows its bytes from the buffer, and nothing is copied. After an error the buffer is
+/// unchanged.
 pub fn read_binary_value<'b>(
     column: ColumnType,
     flags: ColumnFlags,
@@ -113,8 +114,8 @@ pub fn read_binary_value<'b>(
     Ok(value)
 }
 
-// The value at the front of the buffer, read by the type of its column. After an error any bytes of
-// it may have been taken off.
+// The value at the front of the buffer, read by the type of its column. After an error, some of the
+// buffer's bytes may have been taken off.
 fn eat_binary<'b>(
     column: ColumnType,
     unsigned: bool,

@@ -1,7 +1,7 @@
-//! SQL literals of borrowed values, which are those of the values that they say.
+//! SQL literals of borrowed values. They are those of the owned values.
 //!
-//! These calls stand beside those of [`Value`](crate::value::Value), whose bodies they have: a
-//! value that is lent first takes longer.
+//! These calls have the same bodies as those of [`Value`](crate::value::Value). It would take
+//! longer to borrow a value first.
 ghost use Rattle.std.specs.Prelude.{◌≡◌, length, Some, Err, IfOk, IsSome, IsTrue, is_none, ok_or, option_map, string_bytes};
 ghost use Rattle.mysql_wire_part.specs.Answer.{IsAnswer};
 ghost use Rattle.mysql_value_core.specs.declared.value.literal.AsSqlError as AsSqlError;
@@ -18,13 +18,15 @@ use mysql_sql_text::{numbers, strings};
 use std::alloc::{AllocError, Global};
 
 impl ValueRef<'_> {
-    /// The SQL literal of the value (MySQL Reference Manual, "Literal Values").
+    /// Returns the SQL literal of the value (MySQL Reference Manual, "Literal Values").
     ///
-    /// Bytes that are UTF-8 become a string, and others hexadecimal. A date or a time becomes a
-    /// string, in which a field out of its usual range stands as it is. `no_backslash_escape` is
-    /// for a server in the SQL mode `NO_BACKSLASH_ESCAPES`, in which a backslash in a string
-    /// escapes nothing. `Float` is returned for `Float` and `Double`, without allocating, and for
-    /// nothing else; any other value may be out of memory.
+    /// Bytes that are UTF-8 become a string, and other bytes a hexadecimal literal. A date or a
+    /// time becomes a string; a field out of its usual range is written as it is.
+    /// `no_backslash_escape` is for a server in the SQL mode `NO_BACKSLASH_ESCAPES`, in which a
+    /// backslash in a string escapes nothing.
+    ///
+    /// The error `Float` comes exactly for `Float` and `Double`, without allocating. Any other
+    /// value can be out of memory.
     pub fn as_sql(self, alloc: Global, no_backslash_escape: bool) -> Result<String, AsSqlError>
         ensures gives { IsAnswer string_bytes literal_refusal
             (ok_or (literal_of no_backslash_escape (owned self.entry)) float)
@@ -47,10 +49,10 @@ impl ValueRef<'_> {
         Ok(unsafe { String::from_utf8_unchecked(text) })
     }
 
-    /// How many bytes the SQL literal of the value has, the text of `as_sql`.
+    /// The number of bytes of the value's SQL literal, which is the text of `as_sql`.
     ///
-    /// `None` exactly for `Float` and `Double`, which have no literal. It allocates nothing. The
-    /// length may be above `isize::MAX`, and then no slice is that long.
+    /// It is `None` exactly for `Float` and `Double`, which have no literal. It allocates nothing.
+    /// If the length is above `isize::MAX`, no slice is that long.
     pub fn sql_len(self, no_backslash_escape: bool) -> Option<u128>
         ensures exact { result
             ≡ option_map length (literal_of no_backslash_escape (owned self.entry)) }
@@ -86,11 +88,11 @@ impl ValueRef<'_> {
         }
     }
 
-    /// Writes the SQL literal of the value, the text of `as_sql`, over the whole of `room`.
+    /// Writes the value's SQL literal, which is the text of `as_sql`, over the whole of `room`.
     ///
-    /// It can be called only if the value has a literal, so is no float. `room` has to be exactly
-    /// as long as `sql_len` says in the same mode. Nothing is allocated, and nothing is refused.
-    /// What `as_sql` promises of its text holds of the bytes in `room` too.
+    /// The value must have a literal, so it must not be a float. `room` must have exactly the
+    /// length that `sql_len` returns in the same mode. It allocates nothing and is never refused.
+    /// The promises of `as_sql` about its text hold for the bytes in `room` too.
     pub fn put_sql(self, no_backslash_escape: bool, room: &mut [u8])
         requires { option_map length (literal_of no_backslash_escape (owned self))
             ≡ Some (length room.old) }

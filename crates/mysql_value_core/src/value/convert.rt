@@ -1,4 +1,4 @@
-//! Conversions between values and the types of Rust.
+//! Conversions between values and Rust types.
 ghost use Rattle.std.specs.Prelude.{◌≡◌, IfOk, OnErr, alloc_error};
 ghost use Rattle.mysql_wire_part.specs.Answer.{IsAnswer};
 ghost use Rattle.mysql_value_core.specs.Value.{IsBytes};
@@ -15,13 +15,13 @@ mod nested;
 mod to_value;
 mod try_from;
 
-/// A value that a conversion refused: exactly the value handed in.
+/// A conversion of a value was refused. The field is exactly the value that was passed.
 #[derive(Debug, PartialEq, Drop, Error)]
 #[error("Couldn't convert the value `{0:?}` to a desired type")]
 pub struct FromValueError(pub Value);
 
 impl FromValueError {
-    /// A copy of the error. Only that of `Bytes` allocates, on the allocator that they hold.
+    /// A copy of the error. Only a copy of `Bytes` allocates, on the allocator of the bytes.
     pub fn clone(&self) -> Result<FromValueError, AllocError>
         ensures equal { IfOk result (λ copy. copy ≡ self.now) }
         ensures memory { OnErr result (IsBytes self.now.0) }
@@ -30,7 +30,7 @@ impl FromValueError {
     }
 }
 
-/// Why an argument has no value.
+/// The cause for which an argument has no value.
 #[derive(Debug, PartialEq, Drop, Error)]
 pub enum ToValueError {
     /// The duration, rounded to microseconds, has more days than a `Time` holds.
@@ -49,14 +49,14 @@ impl From<AllocError> for ToValueError {
     }
 }
 
-/// An argument of a query: what has a value.
+/// An argument of a query: a type that has a value.
 pub trait ToValue {
-    // the value of the argument, or why it has none
+    // the value of the argument, or the cause for which it has none
     ghost value_of: { Self → Meaning };
 
-    /// The value of the argument. It allocates only if the value is `Bytes`. `DurationTooLong` is
-    /// returned only if the type's `value_of` says so; a type of this library says so only of a
-    /// duration that is too long.
+    /// Returns the value of the argument. It allocates only if the value is `Bytes`.
+    /// `DurationTooLong` comes only if the type's `value_of` says so. A type of this library says
+    /// so only for a duration that is too long.
     fn to_value(&self, alloc: Global) -> Result<Value, ToValueError>
         ensures { IsAnswer (λ value. value) too_long_duration (value_of self.now)
             (MeansBytes (value_of self.now)) result };

@@ -14,13 +14,13 @@ use mysql_sql_text::{numbers, strings};
 use std::alloc::{AllocError, Global};
 use thiserror::Error;
 
-/// Why a value has no SQL literal.
+/// The cause for which a value has no SQL literal.
 #[derive(Debug, PartialEq, Drop, Error)]
 pub enum AsSqlError {
-    /// The value is a float, of either width.
+    /// The value is a `Float` or a `Double`.
     #[error("Float has no SQL text")]
     Float,
-    /// Out of memory for the text, or it is longer than any text can be.
+    /// Memory for the text was refused, or the text would be longer than any text can be.
     #[error("out of memory")]
     Memory(AllocError),
 }
@@ -34,13 +34,15 @@ impl From<AllocError> for AsSqlError {
 }
 
 impl Value {
-    /// The SQL literal of the value (MySQL Reference Manual, "Literal Values").
+    /// Returns the SQL literal of the value (MySQL Reference Manual, "Literal Values").
     ///
-    /// Bytes that are UTF-8 become a string, and others hexadecimal. A date or a time becomes a
-    /// string, in which a field out of its usual range stands as it is. `no_backslash_escape` is
-    /// for a server in the SQL mode `NO_BACKSLASH_ESCAPES`, in which a backslash in a string
-    /// escapes nothing. `Float` is returned for `Float` and `Double`, without allocating, and for
-    /// nothing else; any other value may be out of memory.
+    /// Bytes that are UTF-8 become a string, and other bytes a hexadecimal literal. A date or a
+    /// time becomes a string; a field out of its usual range is written as it is.
+    /// `no_backslash_escape` is for a server in the SQL mode `NO_BACKSLASH_ESCAPES`, in which a
+    /// backslash in a string escapes nothing.
+    ///
+    /// The error `Float` comes exactly for `Float` and `Double`, without allocating. Any other
+    /// value can be out of memory.
     pub fn as_sql(&self, alloc: Global, no_backslash_escape: bool) -> Result<String, AsSqlError>
         ensures gives { IsAnswer string_bytes literal_refusal
             (ok_or (literal_of no_backslash_escape self.now) float)
@@ -63,10 +65,10 @@ impl Value {
         Ok(unsafe { String::from_utf8_unchecked(text) })
     }
 
-    /// How many bytes the SQL literal of the value has, the text of `as_sql`.
+    /// The number of bytes of the value's SQL literal, which is the text of `as_sql`.
     ///
-    /// `None` exactly for `Float` and `Double`, which have no literal. It allocates nothing. The
-    /// length may be above `isize::MAX`, and then no slice is that long.
+    /// It is `None` exactly for `Float` and `Double`, which have no literal. It allocates nothing.
+    /// If the length is above `isize::MAX`, no slice is that long.
     pub fn sql_len(&self, no_backslash_escape: bool) -> Option<u128>
         ensures exact { result ≡ option_map length (literal_of no_backslash_escape self.now) }
         ensures float { is_none result ≡ is_float self.now }
@@ -104,11 +106,11 @@ impl Value {
         }
     }
 
-    /// Writes the SQL literal of the value, the text of `as_sql`, over the whole of `room`.
+    /// Writes the value's SQL literal, which is the text of `as_sql`, over the whole of `room`.
     ///
-    /// It can be called only if the value has a literal, so is no float. `room` has to be exactly
-    /// as long as `sql_len` says in the same mode. Nothing is allocated, and nothing is refused.
-    /// What `as_sql` promises of its text holds of the bytes in `room` too.
+    /// The value must have a literal, so it must not be a float. `room` must have exactly the
+    /// length that `sql_len` returns in the same mode. It allocates nothing and is never refused.
+    /// The promises of `as_sql` about its text hold for the bytes in `room` too.
     pub fn put_sql(&self, no_backslash_escape: bool, room: &mut [u8])
         requires { option_map length (literal_of no_backslash_escape self.now)
             ≡ Some (length room.old) }

@@ -1,10 +1,10 @@
 //! The two sides of a connection.
 ghost use Rattle.std.specs.Prelude.{ℕ};
 
-/// Who writes values in binary form: the null bitmaps of the two sides begin at different bits
-/// (MySQL client/server protocol, "Binary Protocol Resultset Row" and "COM_STMT_EXECUTE").
+/// The side that writes values in binary form. The null bitmaps of the two sides begin at different
+/// bits (MySQL client/server protocol, "Binary Protocol Resultset Row" and "COM_STMT_EXECUTE").
 pub trait SerializationSide {
-    /// The number of bits in a null bitmap before that of the first value.
+    /// The number of bits in a null bitmap before the bit of the first value.
     const BIT_OFFSET: usize;
 
     // the same number, for contracts

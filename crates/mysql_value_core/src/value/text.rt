@@ -11,13 +11,13 @@ use mysql_wire_part::{MyDeserialize, ParseBuf, WireError};
 use std::alloc::{AllocError, Global};
 use std::marker::PhantomData;
 
-// The byte that is a cell of NULL.
+// The byte that is the whole cell of a NULL.
 const NULL_CELL: u8 = 0xFB;
 
-// A row has usually no more cells than these.
+// A row usually has at most this many cells.
 const USUAL_CELLS: usize = 64;
 
-/// The text form of a value, a cell: NULL, or bytes.
+/// The text form of a value, which is a cell: NULL or bytes.
 #[derive(Drop)]
 pub struct TextValue;
 
@@ -42,16 +42,18 @@ impl<'de> MyDeserialize<'de> for ValueDeserializer<TextValue> {
     }
 }
 
-/// Reads `count` cells. It allocates only once the first cell is there: room for `count` cells, or
-/// for as many as bytes are left, or for 64, whichever is least, and for more as they come. On each
-/// error the buffer is unchanged; it is the error of the first cell that has one, or it is out of
+/// Reads `count` cells. It allocates only if the first cell can be read. It then reserves memory
+/// for the least of three numbers of cells: `count`, the number of bytes that are left, and 64. It
+/// reserves more as more cells come.
+///
+/// On an error the buffer is unchanged. The error is that of the first cell that has one, or out of
 /// memory.
 pub fn read_text_cells(
     alloc: Global,
     buf: &mut ParseBuf<'_>,
     count: usize,
 ) -> Result<Vec<Value>, WireError>
-    // It may be out of memory once the first cell is there, even if a later one is refused.
+    // It can be out of memory if the first cell can be read, even if a later cell is refused.
     ensures read { IsAnswer (λ cells. (cells.items, left buf.new)) read_refusal
         (read_cells count (left buf.old)) (ReadsACell count (left buf.old)) result }
     ensures unchanged { OnErr result (left buf.new ≡ left buf.old) }
@@ -67,8 +69,9 @@ pub fn read_text_cells(
     Ok(cells)
 }
 
-// Makes room for so many cells, and no more than those of a usual row, if there is none yet. So a
-// row is one piece of memory. A cell has at least one byte, so a caller knows how many can follow.
+// Reserves memory for `count` cells, but at most for those of a usual row, if none is reserved yet.
+// So a row takes one allocation. A cell has at least one byte, so a caller knows how many can
+// follow.
 fn reserve_once(cells: &mut Vec<Value>, count: usize) -> Result<(), AllocError>
     ensures { cells.new.items ≡ cells.old.items }
 {
@@ -95,8 +98,8 @@ fn eat_cell(alloc: Global, buf: &mut ParseBuf<'_>) -> Result<Value, WireError>
     Ok(Value::Bytes(bytes))
 }
 
-/// The cell at the front of the buffer, whose bytes are those of the buffer: nothing is copied.
-/// After an error the buffer is unchanged.
+/// Reads the cell at the front of the buffer. The value borrows its bytes from the buffer, and
+/// nothing is copied. After an error the buffer is unchanged.
 pub fn read_text_cell<'b>(buf: &mut ParseBuf<'b>) -> Result<ValueRef<'b>, WireError>
     // It allocates nothing, so it is never out of memory.
     ensures read { IsAnswer (λ cell. (owned cell, left buf.new)) read_refusal
@@ -111,19 +114,20 @@ pub fn read_text_cell<'b>(buf: &mut ParseBuf<'b>) -> Result<ValueRef<'b>, WireEr
     Ok(ValueRef::Bytes(text))
 }
 
-/// Reads `count` cells into a vector, in place of what it holds: row after row can be read into
-/// one, and nothing is copied. It allocates only if the vector has no room for so many, and once
-/// the first cell is there. On each error the buffer is unchanged, and the vector may hold any
-/// cells.
+/// Reads `count` cells into a vector, and replaces the vector's cells. So many rows can be read
+/// into one vector, one after another, and nothing is copied. It allocates only if the vector's
+/// capacity is too small for the cells and the first cell can be read. On an error the buffer is
+/// unchanged, and the vector may hold any cells.
 ///
-/// All rows that go into one vector have to live as long as it. If each packet comes into the
-/// buffer of the one before, take [`read_text_cell`].
+/// All rows that are read into one vector have to live as long as the vector. If each packet
+/// overwrites the buffer of the packet before it, use [`read_text_cell`].
 pub fn read_text_cells_into<'b>(
     buf: &mut ParseBuf<'b>,
     count: usize,
     cells: &mut Vec<ValueRef<'b>>,
 ) -> Result<(), WireError>
-    // It may be out of memory only if the vector has no room, and once the first cell is there.
+    // It can be out of memory only if the vector's capacity is too small and the first cell can be
+    // read.
     ensures read { IsAnswer (λ _. (owned_values cells.new.items, left buf.new)) read_refusal
         (read_cells count (left buf.old))
         ((vec_capacity cells.old < count) × ReadsACell count (left buf.old)) result }

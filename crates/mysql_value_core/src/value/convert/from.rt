@@ -1,4 +1,4 @@
-//! Values of the types that have one without allocating.
+//! Conversion to values from types that need no memory for it.
 ghost use Rattle.std.specs.Prelude.{◌≡◌, Ok, string_bytes};
 ghost use Rattle.mysql_value_core.specs.ValueTable.{value_of_bool, value_of_byte_vec, value_of_i16, value_of_i32, value_of_i64, value_of_i8, value_of_isize, value_of_string, value_of_u16, value_of_u32, value_of_u64, value_of_u8, value_of_usize};
 

@@ -24,7 +24,7 @@ impl<T: ToValue> ToValue for Option<T> {
     }
 }
 
-/// The copy is on the allocator that the value holds.
+/// The copy is on the value's own allocator.
 impl ToValue for Value {
     ghost value_of = { value_of_value };
 

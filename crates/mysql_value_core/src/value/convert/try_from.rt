@@ -1,4 +1,4 @@
-//! Values that become texts and bytes of the standard library. Nothing is allocated.
+//! Conversion of values to texts and bytes of the standard library. It allocates nothing.
 ghost use Rattle.std.specs.Prelude.{string_bytes};
 ghost use Rattle.std.specs.Option.{option_map};
 ghost use Rattle.mysql_value_core.specs.FromValue.{ConvertsOrHandsBack, value_array, value_bytes, cow_bytes, cow_text, owned_cow, value_text};
@@ -65,7 +65,7 @@ impl TryFrom<Value> for String {
     }
 }
 
-// The text of bytes, or the bytes if they are none.
+// The text of bytes that are UTF-8, or else the bytes.
 #[tactic(auto, using(crate::proofs::TextLemmas::text_rules))]
 fn text_of(bytes: Vec<u8>) -> Result<String, FromValueError>
     ensures { ConvertsOrHandsBack string_bytes (value_text (Value.Bytes bytes.items))

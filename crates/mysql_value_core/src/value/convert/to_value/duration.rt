@@ -28,8 +28,8 @@ fn nanoseconds(duration: &Duration) -> u128
     u128::from(duration.as_secs()) * NANOSECONDS_PER_SECOND + u128::from(duration.subsec_nanos())
 }
 
-/// The value is a `Time` that is not negative, of the duration rounded half up to microseconds.
-/// `DurationTooLong` has the duration.
+/// The value is a `Time` that isn't negative. The duration is rounded half up to microseconds.
+/// `DurationTooLong` holds the duration.
 impl ToValue for Duration {
     ghost value_of = { value_of_duration };
 
