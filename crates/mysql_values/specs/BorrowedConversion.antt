@@ -1,10 +1,10 @@
--- Conversions of borrowed values: that they give what those of the owned values give.
+-- Conversions of borrowed values. They give the same as those of the owned values.
 use Rattle.std.specs.Prelude.{◌≡◌, Option}
 use Rattle.std.specs.Option.{option_map}
 use Rattle.mysql_value_core.specs.declared.value.Value.{Value}
 
--- What a borrowed value converts to is what the owned one does: its intermediate, committed. If the
--- one doesn't convert, nor does the other.
+-- A borrowed value converts to the committed intermediate of the owned value. If one of them
+-- doesn't convert, the other doesn't either.
 abbrev pub ConvertsAsOwned : {Ir Seen : Type 0} → (Value → Option Seen) → (Value → Option Ir)
     → (Ir → Seen) → Type 0
 ConvertsAsOwned converted conversion commit =

@@ -13,7 +13,7 @@ plus_sign = byte "+"
 abbrev pub minus_sign : ℕ
 minus_sign = byte "-"
 
--- the number of this magnitude, negative or not
+-- the number with this sign and magnitude
 abbrev pub signed_number : Bool → ℕ → ℤ
 signed_number true magnitude = neg_ℤ (pos magnitude)
 signed_number false magnitude = pos magnitude

@@ -14,12 +14,12 @@ use Rattle.mysql_values.specs.Intermediate.{committed}
 use Rattle.mysql_values.specs.declared.value.convert.intermediate.ParseIrOpt.{ParseIrOpt}
 use Rattle.mysql_values.specs.declared.value.convert.intermediate.ParseIrOpt.TheVariants.{Ready, Parsed}
 
--- what is seen of an intermediate, by what is seen of the `T`
+-- the view of an intermediate, by the view of its `T`
 abbrev pub seen_intermediate : {T Seen : Type 0} → (T → Seen) → ParseIrOpt T → ParseIrOpt Seen
 seen_intermediate seen (Ready x) = Ready (seen x)
 seen_intermediate seen (Parsed x value) = Parsed (seen x) value
 
--- the nanoseconds of a time that is not negative, given in microseconds
+-- the nanoseconds of a time that isn't negative, given in microseconds
 abbrev pub nanoseconds_unless_negative : Bool × ℕ → Option ℕ
 nanoseconds_unless_negative (true, microseconds) = None
 nanoseconds_unless_negative (false, microseconds) = Some (microseconds * 1000)
@@ -28,7 +28,8 @@ nanoseconds_unless_negative (false, microseconds) = Some (microseconds * 1000)
 abbrev pub nanoseconds_of_text : List ℕ → Option ℕ
 nanoseconds_of_text text = option_and_then nanoseconds_unless_negative (time_of_text text)
 
--- the conversion of a value: of a time that is not negative, and of a time text without `-`
+-- the conversion of a value; a time that isn't negative converts, and so does a time text without
+-- `-`
 abbrev pub duration_conversion : Value → Option (ParseIrOpt ℕ)
 duration_conversion (Time false days hours minutes seconds microseconds) =
     Some (Parsed (total_microseconds days hours minutes seconds microseconds * 1000)
@@ -45,8 +46,8 @@ ConvertsBackRounded duration (Ok value) =
 ConvertsBackRounded duration (Err too_long) =
     2 ^ 32 ≤ rounded_microseconds duration / 1000000 / 86400
 
--- Bytes convert if and only if they are a time text without `-`, to a duration of its microseconds.
--- This says nothing of other values.
+-- Bytes convert if and only if they are a time text without `-`. They convert to a duration of its
+-- microseconds. Nothing is said about other values.
 abbrev pub ConvertsTimeTexts : Value → Result (ParseIrOpt Duration) FromValueError → Type 0
 ConvertsTimeTexts (Bytes text) (Ok ir) =
     (microseconds : ℕ) × IsTimeText text false microseconds

@@ -1,4 +1,4 @@
--- Intermediates: a `T` that a value was converted to, beside that value.
+-- Intermediates: a `T` to which a value was converted, with that value.
 use Rattle.std.specs.Prelude.{◌≡◌, Bool, IsTrue, Ok}
 use Rattle.mysql_value_core.specs.ValueOf.{Meaning, MeansBytes}
 use Rattle.mysql_values.specs.declared.value.convert.intermediate.ParseIrOpt.{ParseIrOpt}
@@ -14,7 +14,7 @@ abbrev pub rollback_value : {T : Type 0} → (T → Meaning) → ParseIrOpt T �
 rollback_value value_of (Ready x) = value_of x
 rollback_value value_of (Parsed x value) = Ok value
 
--- handing the value back allocates only if it is made of the `T` and is bytes
+-- returning the value allocates only if it is made from the `T` and is bytes
 abbrev pub RollbackTakesMemory : {T : Type 0} → (T → Meaning) → ParseIrOpt T → Type 0
 RollbackTakesMemory value_of (Ready x) = MeansBytes (value_of x)
 RollbackTakesMemory value_of (Parsed x value) = ⊥

@@ -1,4 +1,4 @@
--- Conversions to an `Option<T>`: NULL is none, and other values convert as to a `T`.
+-- Conversions to an `Option<T>`: NULL is none, and other values convert like to a `T`.
 use Rattle.std.specs.Prelude.{Bool, IsTrue, ⊤, Result, Ok, Option, None, Some}
 use Rattle.std.specs.Option.{option_map}
 use Rattle.mysql_value_core.specs.declared.value.Value.{Value}
@@ -9,23 +9,23 @@ use Rattle.mysql_value_core.specs.ValueOf.{Meaning}
 use Rattle.mysql_values.specs.declared.value.convert.option.OptionIr2.{OptionIr2}
 use Rattle.mysql_values.specs.declared.value.convert.option.OptionIr2.TheVariants as option_ir
 
--- what is seen of the intermediate, by what is seen of that of the `T`
+-- the view of the intermediate, by the view of the intermediate of the `T`
 abbrev pub seen_option : {T Ir Seen : Type 0} → (Ir → Seen) → OptionIr2 T Ir → Option Seen
 seen_option seen option_ir.None = None
 seen_option seen (option_ir.Some ir) = Some (seen ir)
 
--- the conversion, by that to a `T`
+-- the conversion to an option, by the conversion to a `T`
 abbrev pub option_conversion : {Ir : Type 0} → (Value → Option Ir) → Value → Option (Option Ir)
 option_conversion conversion NULL = Some None
 option_conversion conversion value = option_map Some (conversion value)
 
--- the value converts to the intermediate, or is handed back
+-- the value converts to the intermediate, or is returned
 abbrev pub ConvertsToOption : {T Ir Seen : Type 0} → (Ir → Seen) → (Value → Option Seen) → Value
     → Result (OptionIr2 T Ir) FromValueError → Type 0
 ConvertsToOption seen conversion value result =
     ConvertsOrHandsBack (seen_option seen) (option_conversion conversion value) value result
 
--- the value that it is rolled back to, by that of the intermediate of the `T`
+-- the value to which it is rolled back, by that of the intermediate of the `T`
 abbrev pub option_undo : {T Ir : Type 0} → (Ir → Meaning) → OptionIr2 T Ir → Meaning
 option_undo undo option_ir.None = Ok NULL
 option_undo undo (option_ir.Some ir) = undo ir

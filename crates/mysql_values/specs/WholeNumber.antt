@@ -1,4 +1,4 @@
--- Whole-number types: the numbers that they hold, and what values convert to them.
+-- Whole-number types: the numbers that they hold, and the conversions of values to them.
 use Rattle.std.specs.Prelude.{ℕ, ◌-◌, ◌^◌, nat_lt, Bool, true, false, ◌||◌, if◌then◌else◌, ℤ, pos, negsuc, unsigned_abs, Option, None, Some}
 use Rattle.std.specs.Option.{option_map, option_and_then}
 use Rattle.mysql_value_core.specs.ValueOf.{is_int, is_uint}
@@ -8,13 +8,13 @@ use Rattle.mysql_values.specs.declared.value.convert.intermediate.ParseIrOpt.{Pa
 use Rattle.mysql_values.specs.declared.value.convert.intermediate.ParseIrOpt.TheVariants.{Ready, Parsed}
 use Rattle.mysql_values.specs.Decimal.{decimal_number}
 
--- What distinguishes a whole-number type. Contracts see its numbers as those of `T`.
+-- The parameters of a whole-number type. Contracts see its numbers as those of `T`.
 pub record WholeType (T : Type 0) : Type 0 where
   -- whether it has negative numbers
   pub is_signed : Bool
   -- the bits of a number
   pub width : ℕ
-  -- a number that it holds, as one of the type
+  -- a number that it holds, as a number of the type
   pub of_number : ℤ → T
 
 -- a type of this width with negative numbers
@@ -73,7 +73,7 @@ u128_type = unsigned_type 128
 abbrev pub usize_type : WholeType ℕ
 usize_type = unsigned_type 64
 
--- A type of this width, with negative numbers or without, holds the number; `negsuc n` is the
+-- A type of this width, with negative numbers or without, holds the number. `negsuc n` is the
 -- number -(n + 1).
 abbrev pub holds : Bool → ℕ → ℤ → Bool
 holds true width (pos n) = nat_lt n (2 ^ (width - 1))
@@ -81,12 +81,12 @@ holds true width (negsuc n) = nat_lt n (2 ^ (width - 1))
 holds false width (pos n) = nat_lt n (2 ^ width)
 holds false width (negsuc n) = false
 
--- the number as one of the type, if the type holds it
+-- the number as a number of the type, if the type holds it
 abbrev pub number_in_type : {T : Type 0} → Bool → ℕ → (ℤ → T) → ℤ → Option T
 number_in_type is_signed width of_number number =
     if holds is_signed width number then Some (of_number number) else None
 
--- the conversion of a value, by a conversion of numbers
+-- the conversion of a value, by a conversion of its number
 abbrev pub conversion_by : {T : Type 0} → (ℤ → Option T) → Value → Option (ParseIrOpt T)
 conversion_by to_type (Int number) = option_map Ready (to_type number)
 conversion_by to_type (UInt number) = option_map Ready (to_type (pos number))

@@ -1,5 +1,5 @@
-//! Laws of the types of this crate and of the one below. A program calls one only for what it
-//! ensures, if a proof needs it.
+//! Laws about the types of this crate and of `mysql_value_core`. A law is called only for its
+//! `ensures`, if a proof needs it.
 ghost use Rattle.std.specs.Prelude.{◌≡◌, ◌↔◌, IsTrue, Some, string_bytes};
 ghost use Rattle.mysql_value_core.specs.FromValue.{value_array, value_bytes, value_text};
 ghost use Rattle.mysql_value_core.specs.ValueOrder.{value_cmp};
@@ -31,7 +31,7 @@ pub use mysql_value_core::laws::{
 use std::cmp::Ordering;
 use std::time::Duration;
 
-/// Intermediates of values are equal if and only if the values are.
+/// Intermediates of values are equal if and only if the values are equal.
 pub fn value_ir_equality(a: &ValueIr, b: &ValueIr) -> bool
     ensures same { IsTrue result ↔ (a.now ≡ b.now) }
     ensures member { result ≡ ⟦<ValueIr as PartialEq>⟧.eq a.now b.now }
@@ -39,7 +39,7 @@ pub fn value_ir_equality(a: &ValueIr, b: &ValueIr) -> bool
     a == b
 }
 
-/// Intermediates of values are ordered as the values.
+/// Intermediates of values are ordered like the values.
 pub fn value_ir_order(a: &ValueIr, b: &ValueIr) -> Option<Ordering>
     ensures order { result ≡ Some (value_cmp a.now.0 b.now.0) }
     ensures member { result ≡ ⟦<ValueIr as PartialOrd>⟧.partial_cmp a.now b.now }
@@ -47,7 +47,7 @@ pub fn value_ir_order(a: &ValueIr, b: &ValueIr) -> Option<Ordering>
     a.partial_cmp(b)
 }
 
-/// Intermediates that hold a `T` and its value are equal if and only if both are.
+/// Intermediates with a `T` and its value are equal if and only if both are equal.
 pub fn parse_ir_equality<T: PartialEq>(a: &ParseIr<T>, b: &ParseIr<T>) -> bool
     ensures same { IsTrue result ↔ (IsTrue (T.eq a.now.0 b.now.0) × (a.now.1 ≡ b.now.1)) }
     ensures member { result ≡ ⟦<ParseIr<T> as PartialEq>⟧.eq a.now b.now }
@@ -55,8 +55,8 @@ pub fn parse_ir_equality<T: PartialEq>(a: &ParseIr<T>, b: &ParseIr<T>) -> bool
     a == b
 }
 
-/// Intermediates that hold a `T`, and its value if it is kept, are equal if and only if variant,
-/// `T` and value are.
+/// Intermediates with a `T`, and its value if it is kept, are equal if and only if variant, `T` and
+/// value are equal.
 pub fn parse_ir_opt_equality<T: PartialEq>(a: &ParseIrOpt<T>, b: &ParseIrOpt<T>) -> bool
     ensures same { IsTrue result ↔ AreEqualParsed T.eq a.now b.now }
     ensures member { result ≡ ⟦<ParseIrOpt<T> as PartialEq>⟧.eq a.now b.now }
@@ -64,8 +64,8 @@ pub fn parse_ir_opt_equality<T: PartialEq>(a: &ParseIrOpt<T>, b: &ParseIrOpt<T>)
     a == b
 }
 
-/// Intermediates of options are equal if and only if both are none, or both hold an intermediate
-/// and these are equal.
+/// Intermediates of options are equal if and only if both are none, or both hold equal
+/// intermediates.
 pub fn option_ir_equality<T: FromValue>(a: &OptionIr2<T>, b: &OptionIr2<T>) -> bool
 where
     T::Intermediate: PartialEq,
@@ -81,7 +81,7 @@ pub fn whole_number_converts_back<T: WholeNumber + Drop>(number: &T)
         (whole_conversion T.is_signed T.width T.of_number) committed
         (T.value_of number.now) number.now }
 {
-    // A proof reads here that the type holds the number of its parts.
+    // A proof uses here that the type holds the number of its parts.
     let (negative, magnitude) = number.to_parts();
     let _same = T::from_parts(negative, magnitude);
 }
@@ -91,7 +91,7 @@ pub fn boolean_converts_back(boolean: &bool)
     ensures converts_back { ConvertsBack boolean_conversion committed
         (⟦<bool as ToValue>⟧.value_of boolean.now) boolean.now }
 {
-    // A proof reads here that it is `true` or `false`.
+    // A proof uses here that it is `true` or `false`.
     let _boolean = *boolean;
 }
 
@@ -100,7 +100,7 @@ pub fn duration_converts_back(duration: &Duration)
     ensures rounded { ConvertsBackRounded duration.now
         (⟦<Duration as ToValue>⟧.value_of duration.now) }
 {
-    // A proof reads here which fields a duration has.
+    // A proof uses here which fields a duration has.
     let _duration = *duration;
 }
 
@@ -109,7 +109,7 @@ pub fn text_converts_back(text: &String)
     ensures converts_back { ConvertsBack value_text (λ seen. seen)
         (⟦<String as ToValue>⟧.value_of text.now) (string_bytes text.now) }
 {
-    // A proof reads here that the text is UTF-8.
+    // A proof uses here that the text is UTF-8.
     let _text = text.as_str();
 }
 

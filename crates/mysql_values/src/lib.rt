@@ -1,5 +1,5 @@
 //! Values of the MySQL client/server protocol: all of `mysql_value_core`, re-exported by name, and
-//! conversions of values with their way back.
+//! conversions of values that can be undone.
 #![tactic(auto)]
 
 pub mod bytes;

@@ -1,2 +1,2 @@
-//! How bytes are shown, re-exported.
+//! Bytes as text, re-exported.
 pub use mysql_value_core::show::Shown;

@@ -1,17 +1,17 @@
-//! Laws of conversions of borrowed values: they give what those of the owned values give.
+//! Laws about conversions of borrowed values. They give the same as those of the owned values.
 ghost use Rattle.std.specs.Option.{option_map};
 ghost use Rattle.mysql_values.specs.BorrowedConversion.{ConvertsAsOwned};
 
 use crate::value::convert::{FromValue, FromValueRef, ParseIrOpt, WholeNumber};
 use std::time::Duration;
 
-/// A whole number comes of a borrowed value as of the owned one.
+/// A borrowed value converts to the same whole number as the owned value.
 pub fn borrowed_whole_number<T: WholeNumber + Drop + From<ParseIrOpt<T>>>()
     ensures same { ConvertsAsOwned ⟦<T as FromValueRef<'static>>⟧.converted
         ⟦<T as FromValue>⟧.conversion ⟦<T as FromValue>⟧.commit }
 {}
 
-/// Booleans, durations, texts and bytes come of a borrowed value as of the owned one.
+/// A borrowed value converts to the same Boolean, duration, text or bytes as the owned value.
 pub fn borrowed_conversions()
     ensures boolean { ConvertsAsOwned ⟦<bool as FromValueRef<'static>>⟧.converted
         ⟦<bool as FromValue>⟧.conversion ⟦<bool as FromValue>⟧.commit }
@@ -23,8 +23,9 @@ pub fn borrowed_conversions()
         ⟦<Vec<u8> as FromValue>⟧.conversion ⟦<Vec<u8> as FromValue>⟧.commit }
 {}
 
-/// An option comes of a borrowed value as of the owned one if what it holds does. Contracts may see
-/// the two sides as different types: then `as_owned` says what the one is of the other.
+/// A borrowed value converts to the same option as the owned value, if it does so for the type in
+/// the option. Contracts may see the two sides as different types; `as_owned` then maps the one to
+/// the other.
 pub fn borrowed_option<R: FromValueRef<'static>, T: FromValue>()
     ensures same { (as_owned : R.Seen → T.Seen)
         → ConvertsAsOwned (λ value. option_map as_owned (R.converted value))

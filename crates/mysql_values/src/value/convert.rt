@@ -1,4 +1,4 @@
-//! Conversions of values to the types of Rust, with their way back.
+//! Conversions of values to Rust types that can be undone.
 ghost use Rattle.std.specs.Prelude.{◌≡◌, Option, Some, IsSome, IfOk};
 ghost use Rattle.std.specs.Option.{option_map};
 ghost use Rattle.mysql_wire_part.specs.Answer.{IsAnswer};
@@ -28,29 +28,30 @@ pub use crate::value::convert::option::OptionIr2;
 pub use crate::value::convert::whole_number::WholeNumber;
 pub use mysql_value_core::value::convert::{FromValueError, ToValue, ToValueError};
 
-/// What can be handed back as a value: intermediates.
+/// An intermediate of a conversion, which can be converted back to a value.
 pub trait IntoValue {
-    // the value that it is handed back as
+    // the value that it is converted back to
     ghost undo: { Self → Meaning };
 
-    // whether handing it back allocates
+    // whether converting it back allocates
     ghost takes_memory: { Self → Type 0 };
 
-    /// The value that the intermediate is rolled back to. If `get_intermediate` gave the
-    /// intermediate, that value converts to the same again. It may be out of memory only if the
-    /// type's `takes_memory` says so, and is refused as `DurationTooLong` only if its `undo` is
-    /// that refusal. The intermediate is consumed even then.
+    /// Returns the value to which the intermediate is rolled back. If `get_intermediate` gave the
+    /// intermediate, this value converts to the same again. The call can be out of memory only if
+    /// the type's `takes_memory` says so. It is refused as `DurationTooLong` only if its `undo` is
+    /// that refusal. The intermediate is consumed in any case.
     fn into_value(self, alloc: Global) -> Result<Value, ToValueError>
         ensures { IsAnswer (λ value. value) too_long_duration (undo self)
             (takes_memory self) result };
 }
 
-/// What values convert to.
+/// A type to which values convert.
 ///
-/// A type names its conversion and what becomes of the intermediate, in terms of what contracts
-/// see of both: for a `Vec` the list of its items, for most types `Self`.
+/// A type states its conversion and the commit of the intermediate, in terms of the view that
+/// contracts have of both. For a `Vec` this view is the list of its items, for most types it is
+/// `Self`.
 pub trait FromValue: Sized {
-    /// What a value is converted to before it is known whether `Self` or the value is wanted.
+    /// The result of a conversion before it is decided whether `Self` or the value is wanted.
     type Intermediate: TryFrom<Value, Error = FromValueError> + Into<Self> + IntoValue;
 
     // what contracts see of the type
@@ -66,23 +67,23 @@ pub trait FromValue: Sized {
     // the intermediate of a value that converts
     ghost conversion: { value.Value → Option SeenIr };
 
-    // what becomes of an intermediate
+    // the result of committing an intermediate
     ghost commit: { SeenIr → Seen };
 
-    /// What becomes of the intermediate.
+    /// Commits the intermediate.
     fn commit_intermediate(ir: Self::Intermediate) -> Self
         ensures { seen result ≡ commit (seen_ir ir) };
 
-    /// The intermediate of a value, which can still be handed back; or, if the value doesn't
-    /// convert, the refusal with exactly that value. Nothing is allocated.
+    /// Returns the intermediate of a value, from which the value can still be had back. If the
+    /// value doesn't convert, it is refused with exactly that value. It allocates nothing.
     fn get_intermediate(v: Value) -> Result<Self::Intermediate, FromValueError>
         ensures converts { ConvertsOrHandsBack seen_ir (conversion v) v result }
         ensures rolls_back { IfOk result (λ ir.
             RollsBack conversion commit (Self.Intermediate.undo ir) (seen_ir ir)) }
         ensures null { IfOk result (λ ir. NullFromNull (Self.Intermediate.undo ir) v) };
 
-    /// What a value converts to. It can be called only if the value is proved to convert;
-    /// `from_value_opt` is the test.
+    /// Converts a value. It can be called only if the value is proved to convert; `from_value_opt`
+    /// tests it.
     fn from_value(v: Value) -> Self
         requires { IsSome (conversion v) }
         ensures { option_map commit (conversion v) ≡ Some (seen result) }
@@ -93,7 +94,7 @@ pub trait FromValue: Sized {
         }
     }
 
-    /// What a value converts to, or the value handed back.
+    /// Converts a value, or returns the value in the error.
     fn from_value_opt(v: Value) -> Result<Self, FromValueError>
         ensures { ConvertsOrHandsBack seen (option_map commit (conversion v)) v result }
     {
@@ -102,8 +103,8 @@ pub trait FromValue: Sized {
     }
 }
 
-/// What a value converts to. It can be called only if the value is proved to convert;
-/// `from_value_opt` is the test.
+/// Converts a value. It can be called only if the value is proved to convert; `from_value_opt`
+/// tests it.
 pub fn from_value<T: FromValue>(v: Value) -> T
     requires { IsSome (T.conversion v) }
     ensures { option_map T.commit (T.conversion v) ≡ Some (T.seen result) }
@@ -111,7 +112,7 @@ pub fn from_value<T: FromValue>(v: Value) -> T
     T::from_value(v)
 }
 
-/// What a value converts to, or the value handed back.
+/// Converts a value, or returns the value in the error.
 pub fn from_value_opt<T: FromValue>(v: Value) -> Result<T, FromValueError>
     ensures { ConvertsOrHandsBack T.seen (option_map T.commit (T.conversion v)) v result }
 {

@@ -19,7 +19,8 @@ const MICROSECONDS_PER_SECOND: u32 = 1_000_000;
 
 const NANOSECONDS_PER_MICROSECOND: u32 = 1_000;
 
-// The duration of the fields of a time. Whole seconds of its microseconds are carried.
+// The duration of the fields of a time. Microseconds from a million on are carried into the
+// seconds.
 pub(crate) fn duration_of(
     days: u32,
     hours: u8,

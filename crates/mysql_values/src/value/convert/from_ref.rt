@@ -1,4 +1,5 @@
-//! Conversions of borrowed values: by the rules of [`FromValue`](super::FromValue), without memory.
+//! Conversions of borrowed values. They follow the rules of [`FromValue`](super::FromValue), and
+//! need no memory.
 ghost use Rattle.std.specs.Prelude.{◌≡◌, Bool, IfOk, IsSome, List, OnErr, ℕ, Option, string_bytes};
 ghost use Rattle.std.specs.Duration.{as_nanos};
 ghost use Rattle.std.specs.Option.{option_map};
@@ -19,14 +20,15 @@ use crate::value::convert::duration::{duration_of, duration_of_text};
 use std::alloc::{AllocError, Global};
 use std::time::Duration;
 
-/// A type that borrowed values convert to, as owned ones do. Bytes and texts stay where they are.
+/// A type to which borrowed values convert, like owned values. Bytes and texts are borrowed, not
+/// copied.
 ///
-/// The value is `Copy`, so a refusal hands nothing back, and there is no intermediate. In contracts
-/// `converted` is what a value becomes. `conversion` of [`FromValue`](super::FromValue) is the
-/// intermediate, before it is committed.
+/// A borrowed value is `Copy`, so a refusal returns no value, and there is no intermediate. In
+/// contracts, `converted` is the result for a value. In [`FromValue`](super::FromValue),
+/// `conversion` is the intermediate before it is committed.
 ///
-/// A `String` and a `Vec<u8>` allocate, and refused memory is another answer than a value that
-/// doesn't convert. They are made by [`copied_text`] and [`copied_bytes`], so no call makes an
+/// `String` and `Vec<u8>` don't implement it. They allocate, and refused memory isn't the same as a
+/// value that doesn't convert. [`copied_text`] and [`copied_bytes`] make them, so no call makes an
 /// `Option<String>`.
 pub trait FromValueRef<'v>: Sized {
     // what contracts see of the type
@@ -34,10 +36,10 @@ pub trait FromValueRef<'v>: Sized {
 
     ghost seen: { Self → Seen };
 
-    // what a value converts to, if it does
+    // the result of converting a value, if it converts
     ghost converted: { value.Value → Option Seen };
 
-    /// What the value converts to, if it does. Nothing is allocated.
+    /// Converts the value; `None` if it doesn't convert. It allocates nothing.
     fn from_value_ref(value: ValueRef<'v>) -> Option<Self>
         ensures { option_map seen result ≡ converted (owned value.entry) };
 }
@@ -151,8 +153,8 @@ impl<'v, T: FromValueRef<'v>> FromValueRef<'v> for Option<T> {
     }
 }
 
-/// A copy of the text of a borrowed value, if its bytes are one: what the owned value converts to
-/// as a `String`. It allocates only if the value converts.
+/// A copy of the text of a borrowed value, if its bytes are a text. It is the `String` to which the
+/// owned value converts. It allocates only if the value converts.
 pub fn copied_text(alloc: Global, value: ValueRef<'_>) -> Result<Option<String>, AllocError>
     ensures converts { IfOk result (λ text.
         option_map string_bytes text ≡ value_text (owned value.entry)) }
@@ -164,8 +166,8 @@ pub fn copied_text(alloc: Global, value: ValueRef<'_>) -> Result<Option<String>,
     }
 }
 
-/// A copy of the bytes of a borrowed value, if it has any: what the owned value converts to as a
-/// `Vec<u8>`. It allocates only if the value converts.
+/// A copy of the bytes of a borrowed value, if it has bytes. It is the `Vec<u8>` to which the owned
+/// value converts. It allocates only if the value converts.
 pub fn copied_bytes(alloc: Global, value: ValueRef<'_>) -> Result<Option<Vec<u8>>, AllocError>
     ensures converts { IfOk result (λ bytes.
         option_map (λ vector. vector.items) bytes ≡ value_bytes (owned value.entry)) }

@@ -1,4 +1,4 @@
-//! Intermediates: what a value is converted to before it is known whether the result or the value
+//! Intermediates: the result of a conversion before it is decided whether the result or the value
 //! is wanted.
 ghost use Rattle.std.specs.Prelude.{◌≡◌, IfOk, Ok, OnErr, Some};
 ghost use Rattle.mysql_wire_part.specs.Answer.{IsAnswer};
@@ -34,10 +34,10 @@ impl<T> ParseIr<T> {
     }
 }
 
-/// A `T`, with the value that was converted to it if that is kept.
+/// A `T`, and the value that was converted to it if that value is kept.
 #[derive(Debug, PartialEq, Drop)]
 pub enum ParseIrOpt<T> {
-    /// The `T` alone: its own value stands for the one that was converted.
+    /// Only the `T`. Its own value takes the place of the value that was converted.
     Ready(T),
     /// The `T` and the value that was converted to it.
     Parsed(T, Value),
@@ -60,9 +60,9 @@ impl<T> ParseIrOpt<T> {
 impl<T: ToValue + Drop> ParseIrOpt<T> {
     ghost use Rattle.mysql_values.specs.Intermediate.{rollback_value, RollbackTakesMemory};
 
-    /// The value that is kept, or else that of the `T`. Making the latter allocates if it is
-    /// `Bytes`, and is refused as `DurationTooLong` if a duration is too long. The intermediate is
-    /// consumed even then.
+    /// Returns the value that is kept, or else the value of the `T`. Making the latter allocates if
+    /// it is `Bytes`, and is refused as `DurationTooLong` if a duration is too long. The
+    /// intermediate is consumed in any case.
     pub fn rollback(self, alloc: Global) -> Result<Value, ToValueError>
         ensures { IsAnswer (λ value. value) too_long_duration (rollback_value T.value_of self)
             (RollbackTakesMemory T.value_of self) result }
@@ -86,12 +86,12 @@ impl<T: ToValue + Drop> IntoValue for ParseIrOpt<T> {
     }
 }
 
-/// The intermediate of a value: itself. It is ordered as the value.
+/// The intermediate of a `Value`, which is the value itself. It is ordered like the value.
 #[derive(Debug, PartialEq, PartialOrd, Drop)]
 pub struct ValueIr(pub Value);
 
 impl ValueIr {
-    /// A copy. Only that of `Bytes` allocates, on the allocator that they hold.
+    /// A copy. Only a copy of `Bytes` allocates, on the allocator of the bytes.
     pub fn clone(&self) -> Result<ValueIr, AllocError>
         ensures equal { IfOk result (λ copy. copy ≡ self.now) }
         ensures memory { OnErr result (IsBytes self.now.0) }

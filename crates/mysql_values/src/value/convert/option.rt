@@ -1,4 +1,4 @@
-//! Conversions to options, by those of the types that they hold.
+//! Conversions to options, by the conversions to the types in them.
 ghost use Rattle.std.specs.Prelude.{◌≡◌, Option};
 ghost use Rattle.std.specs.Option.{option_map};
 
@@ -6,7 +6,7 @@ use crate::value::Value;
 use crate::value::convert::{FromValue, FromValueError, IntoValue, ToValueError};
 use std::alloc::Global;
 
-/// The intermediate of an `Option<T>`: none, or that of the `T`.
+/// The intermediate of an `Option<T>`: none, or the intermediate of a `T`.
 #[derive(Drop)]
 #[derive_where(Debug, PartialEq; T::Intermediate)]
 pub enum OptionIr2<T: FromValue> {

@@ -8,7 +8,7 @@ ghost use Rattle.mysql_values.specs.WholeNumber.{holds, i128_type, i16_type, i32
 
 use crate::value::convert::{ParseIrOpt, WholeNumber};
 
-// The number of a type with negative ones, of up to 128 bits.
+// The number of at most 128 bits with this sign and magnitude, for the types with negative numbers.
 fn with_sign(negative: bool, magnitude: u128) -> Option<i128>
     ensures { SomeIff result (holds true 128 (signed_number negative magnitude) ≡ true)
         (signed_number negative magnitude) }

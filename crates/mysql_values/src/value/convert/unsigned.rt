@@ -8,7 +8,7 @@ ghost use Rattle.mysql_values.specs.WholeNumber.{holds, u128_type, u16_type, u32
 
 use crate::value::convert::{ParseIrOpt, WholeNumber};
 
-// The number of a type without negative ones, of up to 128 bits.
+// The number of at most 128 bits with this magnitude, for the types without negative numbers.
 fn without_sign(negative: bool, magnitude: u128) -> Option<u128>
     ensures { SomeIff result (holds false 128 (signed_number negative magnitude) ≡ true) magnitude }
 {

@@ -1,4 +1,4 @@
-//! Conversions to whole numbers: what the twelve types have in common.
+//! Conversions to whole numbers: the code that is common to the twelve types.
 ghost use Rattle.std.specs.Prelude.{◌≡◌, ◌≢◌, ℕ, ◌≤◌, Bool, ℤ, true, Some, Option, IfSome, IsTrue};
 ghost use Rattle.std.specs.Option.{option_map};
 ghost use Rattle.mysql_value_core.specs.FromValue.{ConvertsOrHandsBack};
@@ -14,8 +14,8 @@ use crate::value::Value;
 use crate::value::convert::decimal::decimal_parts;
 use crate::value::convert::{FromValue, FromValueError, ParseIrOpt, ToValue};
 
-/// A whole-number type: which numbers it holds. It stands for the twelve types of Rust, so that
-/// their conversions are written once.
+/// A whole-number type, and the numbers that it holds. The trait stands for the twelve types of
+/// Rust, so that their conversions are written once.
 pub trait WholeNumber: ToValue + Sized {
     // whether the type has negative numbers
     ghost is_signed: { Bool };
@@ -26,10 +26,10 @@ pub trait WholeNumber: ToValue + Sized {
     // no type is wider than 128 bits
     ghost width_at_most_128: { width ≤ 128 };
 
-    // a number that the type holds, as one of the type
+    // a number that the type holds, as a number of the type
     ghost of_number: { ℤ → Self };
 
-    /// The number of this magnitude, negative or not, if the type holds it; also 0 with a `-`.
+    /// The number with this sign and magnitude, if the type holds it. A 0 with a `-` is 0.
     fn from_parts(negative: bool, magnitude: u128) -> Option<Self>
         ensures number { result
             ≡ number_in_type is_signed width of_number (signed_number negative magnitude) }
@@ -47,7 +47,7 @@ pub trait WholeNumber: ToValue + Sized {
         ensures sign { IsTrue result.0 → result.1 ≢ 0 };
 }
 
-// The intermediate of an `Int` or a `UInt`, whose number is given by its sign and its magnitude.
+// The intermediate of an `Int` or a `UInt` with this sign and magnitude.
 fn number_intermediate<T: WholeNumber>(
     negative: bool,
     magnitude: u128,
