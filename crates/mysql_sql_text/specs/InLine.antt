@@ -1,5 +1,5 @@
--- Texts in one line: without a newline, by which clients find lines, and without a byte 0, at which
--- they stop.
+-- Texts in one line: without a newline, which ends a line for clients, and without a byte 0, at
+-- which clients stop.
 use Rattle.std.specs.Prelude.{◌==◌, ◌&&◌, not, ℕ, Bool, IsTrue, List, [], ◌∷◌, ⊤}
 use Rattle.std.specs.List.{list_all}
 use Rattle.std.specs.Str.{byte}

@@ -1,4 +1,4 @@
--- The texts that SQL literals are made of (MySQL Reference Manual, "String Literals", "Hexadecimal
+-- The texts of which SQL literals consist (MySQL Reference Manual, "String Literals", "Hexadecimal
 -- Literals", "Date and Time Literals"). A mode is the flag `no_backslash_escape`: `true` is the
 -- mode without backslash escapes.
 use Rattle.std.specs.Prelude.{ℕ, ◌+◌, ◌-◌, ◌*◌, ◌/◌, ◌%◌, nat_lt, Bool, true, false, ◌==◌, ◌&&◌, List, [], ◌∷◌, ◌++◌, length, replicate, codes, if◌then◌else◌}
@@ -10,9 +10,10 @@ use Rattle.std.specs.Str.{byte, is_utf8}
 abbrev pub control_z : ℕ
 control_z = 26
 
--- What stands for a byte between single quotes. With backslash escapes a zero byte, a newline, a
--- carriage return and Ctrl-Z become a backslash and a letter or digit, and a backslash and both
--- quotes get a backslash before them; without, a single quote is doubled. Every other byte stays.
+-- The bytes that stand for a byte between single quotes. With backslash escapes, a zero byte, a
+-- newline, a carriage return and Ctrl-Z become a backslash and a letter or digit. A backslash and
+-- both quotes get a backslash before them. Without backslash escapes, a single quote is doubled.
+-- Every other byte stays.
 abbrev pub escaped_byte : Bool → ℕ → List ℕ
 escaped_byte false b =
     if b == 0 then codes "\\0" else (
@@ -24,7 +25,7 @@ escaped_byte false b =
     if b == byte "\"" then codes "\\\"" else b ∷ []))))))
 escaped_byte true b = if b == byte "'" then codes "''" else b ∷ []
 
--- what stands for each of the bytes, in a row
+-- the bytes that stand for each of the bytes, one after another
 abbrev pub escaped : Bool → List ℕ → List ℕ
 escaped mode bytes = flat_map (escaped_byte mode) bytes
 
@@ -41,16 +42,16 @@ abbrev pub hexadecimal : List ℕ → List ℕ
 hexadecimal bytes =
     flat_map (λ b. hexadecimal_digit (b / 16) ∷ hexadecimal_digit (b % 16) ∷ []) bytes
 
--- the literal of bytes: a string if they are UTF-8, else hexadecimal
+-- the literal of bytes: a string if they are UTF-8, or else a hexadecimal literal
 abbrev pub bytes_literal : Bool → List ℕ → List ℕ
 bytes_literal mode bytes =
     if is_utf8 bytes then quoted (escaped mode bytes) else codes "0x" ++ hexadecimal bytes
 
--- the decimal digits of a number, after as many zeros as the width asks for
+-- the decimal digits of a number, with zeros before them up to the width
 abbrev pub padded : ℕ → ℕ → List ℕ
 padded width n = replicate (width - length (decimal n)) (byte "0") ++ decimal n
 
--- the fraction of a second: none if there are no microseconds, else at least six digits
+-- the fraction of a second: none if there are no microseconds, or else at least six digits
 abbrev pub fraction : ℕ → List ℕ
 fraction microseconds = if microseconds == 0 then [] else codes "." ++ padded 6 microseconds
 
@@ -68,14 +69,14 @@ abbrev pub is_midnight : ℕ → ℕ → ℕ → ℕ → Bool
 is_midnight hour minute second microseconds =
     hour == 0 && minute == 0 && second == 0 && microseconds == 0
 
--- what stands between the quotes of a date: the day alone at midnight
+-- the text between the quotes of a date: only the day at midnight
 abbrev pub date_text : ℕ → ℕ → ℕ → ℕ → ℕ → ℕ → ℕ → List ℕ
 date_text year month day hour minute second microseconds =
     if is_midnight hour minute second microseconds then day_text year month day
     else day_text year month day ++ codes " "
     ++ padded 2 hour ++ after_hours minute second microseconds
 
--- what stands between the quotes of a time: days count as 24 hours each
+-- the text between the quotes of a time: each day counts as 24 hours
 abbrev pub time_text : Bool → ℕ → ℕ → ℕ → ℕ → ℕ → List ℕ
 time_text negative days hours minutes seconds microseconds =
     (if negative then codes "-" else [])

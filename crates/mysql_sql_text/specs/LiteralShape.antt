@@ -1,5 +1,5 @@
 -- The shape of every literal (MySQL Reference Manual, "String Literals", "Hexadecimal Literals",
--- "Numeric Literals", "NULL Values"): what is to be known of the literals in a query.
+-- "Numeric Literals", "NULL Values"): the facts that are needed about the literals in a query.
 use Rattle.std.specs.Prelude.{ℕ, Bool, true, false, IsTrue, List, [], ◌∷◌, ◌++◌, codes}
 use Rattle.std.specs.Char.{is_ascii_digit}
 use Rattle.std.specs.List.{list_all}
@@ -21,19 +21,19 @@ AreHexadecimalPairs (a ∷ b ∷ c ∷ bytes) =
     IsTrue (is_hexadecimal_digit a) × IsTrue (is_hexadecimal_digit b)
     × AreHexadecimalPairs (c ∷ bytes)
 
--- a closed string: a single quote, units, a single quote
+-- a closed string: a single quote, units, and a single quote
 pub data IsClosedString (mode : Bool) : List ℕ → Type 0 where
   closed_string : (body : List ℕ) → AreUnits mode (byte "'") body
       → IsClosedString mode (codes "'" ++ body ++ codes "'")
 
--- one or more closed strings, each directly after the one before
+-- one or more closed strings, each directly after the one before it
 pub data AreClosedStrings (mode : Bool) : List ℕ → Type 0 where
   one_string : (string : List ℕ) → IsClosedString mode string → AreClosedStrings mode string
   more_strings : (string rest : List ℕ) → IsClosedString mode string → AreClosedStrings mode rest
       → AreClosedStrings mode (string ++ rest)
 
--- A literal in quotes: one closed string with backslash escapes, and one or more without, since
--- there a doubled quote ends one string and begins the next.
+-- A literal in quotes. With backslash escapes it is one closed string. Without them it is one or
+-- more, since a doubled quote ends one string and begins the next.
 abbrev pub IsQuoted : Bool → List ℕ → Type 0
 IsQuoted false literal = IsClosedString false literal
 IsQuoted true literal = AreClosedStrings true literal

@@ -1,12 +1,13 @@
--- What a time text says, as a function. The meaning is the relation `IsTimeText` of TimeText, and
--- `laws::time_texts_are_read` says that this reads exactly the time texts, each as what it says.
+-- The reading of a time text, as a function. Its meaning is the relation `IsTimeText` of TimeText.
+-- The law `laws::time_texts_are_read` says that it reads exactly the time texts, each with its
+-- meaning.
 use Rattle.std.specs.Prelude.{ℕ, ◌-◌, ◌*◌, ◌^◌, Bool, true, false, ◌==◌, nat_le, if◌then◌else◌, List, [], ◌∷◌, length, Option, None, Some}
 use Rattle.std.specs.Option.{option_map, option_or}
 use Rattle.std.specs.Str.{byte}
 use Rattle.mysql_sql_text.specs.Digits.{value_of_digits}
 use Rattle.mysql_sql_text.specs.TimeText.{total_microseconds}
 
--- a number that is at most the greatest
+-- a number, if it is at most the greatest
 abbrev pub at_most : ℕ → Option ℕ → Option ℕ
 at_most greatest None = None
 at_most greatest (Some number) = if nat_le number greatest then Some number else None
@@ -18,18 +19,18 @@ fraction_microseconds digits =
     then option_map (λ number. number * 10 ^ (6 - length digits)) (value_of_digits digits)
     else None
 
--- the microseconds of what stands after the seconds: nothing, or a point and digits
+-- the microseconds of the text after the seconds: nothing, or a point and digits
 abbrev pub fraction_of : List ℕ → Option ℕ
 fraction_of [] = Some 0
 fraction_of (point ∷ digits) = if point == byte "." then fraction_microseconds digits else None
 
--- the microseconds of the fields, if all four are there
+-- the microseconds of the fields, if there are all four
 abbrev pub sum_of_fields : Option ℕ → Option ℕ → Option ℕ → Option ℕ → Option ℕ
 sum_of_fields (Some hours) (Some minutes) (Some seconds) (Some part) =
     Some (total_microseconds 0 hours minutes seconds part)
 sum_of_fields hours minutes seconds part = None
 
--- with these hours, the microseconds of what stands after their colon
+-- the microseconds of a time with these hours, and this text after their colon
 abbrev pub time_after_hours : Option ℕ → List ℕ → Option ℕ
 time_after_hours hours (a ∷ b ∷ colon ∷ c ∷ d ∷ text) =
     if colon == byte ":"
@@ -55,7 +56,7 @@ time_of_three_digits text = None
 abbrev pub unsigned_time : List ℕ → Option ℕ
 unsigned_time text = option_or (time_of_two_digits text) (time_of_three_digits text)
 
--- whether a time text is negative, and how many microseconds it says
+-- whether a time text is negative, and the number of its microseconds
 abbrev pub time_of_text : List ℕ → Option (Bool × ℕ)
 time_of_text [] = None
 time_of_text (first ∷ text) =

@@ -17,8 +17,8 @@ abbrev pub is_escape : Bool → ℕ → Bool
 is_escape false b = b == byte "\\"
 is_escape true b = false
 
--- Units in a row, inside quotes of one kind: a unit is one byte that is neither the quote nor an
--- escape, or an escape and any one byte.
+-- Units one after another, inside quotes of one kind. A unit is one byte that is neither the quote
+-- nor an escape, or it is an escape and any one byte.
 pub data AreUnits (mode : Bool) (quote : ℕ) : List ℕ → Type 0 where
   no_units : AreUnits mode quote []
   byte_unit : {b : ℕ} {bytes : List ℕ} → b ≢ quote → IsFalse (is_escape mode b)

@@ -1,6 +1,6 @@
--- Time texts: an optional `-`, hours, minutes and seconds with a colon between, and a fraction of a
--- second (MySQL Reference Manual, "Date and Time Literals", the form 'hh:mm:ss' with fractional
--- seconds). docs/RULES.md says where this is narrower than the manual.
+-- Time texts: an optional `-`, then hours, minutes and seconds with colons between them, and a
+-- fraction of a second (MySQL Reference Manual, "Date and Time Literals", the form 'hh:mm:ss' with
+-- fractional seconds). docs/RULES.md says where this is narrower than the manual.
 use Rattle.std.specs.Prelude.{◌≡◌, ℕ, ◌+◌, ◌-◌, ◌*◌, ◌^◌, ◌≤◌, Bool, true, false, List, [], ◌∷◌, ◌++◌, length, codes, Some, ◌⊎◌}
 use Rattle.std.specs.Str.{byte}
 use Rattle.mysql_sql_text.specs.Digits.{value_of_digits}
@@ -10,7 +10,7 @@ abbrev pub total_microseconds : ℕ → ℕ → ℕ → ℕ → ℕ → ℕ
 total_microseconds days hours minutes seconds microseconds =
     (((days * 24 + hours) * 60 + minutes) * 60 + seconds) * 1000000 + microseconds
 
--- `width` digits, of a number up to the greatest
+-- `width` digits, of a number that is at most the greatest
 pub record IsField (width greatest : ℕ) (digits : List ℕ) (number : ℕ) : Type 0 where
   pub count : length digits ≡ width
   pub value : value_of_digits digits ≡ Some number
@@ -20,7 +20,7 @@ pub record IsField (width greatest : ℕ) (digits : List ℕ) (number : ℕ) : T
 abbrev pub AreHours : List ℕ → ℕ → Type 0
 AreHours digits hours = IsField 2 99 digits hours ⊎ IsField 3 899 digits hours
 
--- nothing, or a point and one to six digits, which say microseconds once zeros fill them up to six
+-- nothing, or a point and one to six digits, which are microseconds if zeros fill them up to six
 pub data IsFraction (text : List ℕ) (microseconds : ℕ) : Type 0 where
   no_fraction : text ≡ [] → microseconds ≡ 0 → IsFraction text microseconds
   some_fraction : (digits : List ℕ) (number : ℕ) → codes "." ++ digits ≡ text → length digits ≤ 6
@@ -32,7 +32,7 @@ abbrev pub sign : Bool → List ℕ
 sign true = codes "-"
 sign false = []
 
--- a time text, whether it is negative, and how many microseconds it says
+-- a time text, whether it is negative, and the number of its microseconds
 pub record IsTimeText (text : List ℕ) (negative : Bool) (microseconds : ℕ) : Type 0 where
   pub hour_digits : List ℕ
   pub minute_digits : List ℕ
@@ -42,7 +42,7 @@ pub record IsTimeText (text : List ℕ) (negative : Bool) (microseconds : ℕ) :
   pub minutes : ℕ
   pub seconds : ℕ
   pub fraction_microseconds : ℕ
-  -- sign, hours, a colon, minutes, a colon, seconds, and what is left
+  -- sign, hours, a colon, minutes, a colon, seconds, and the fraction
   pub parts : text ≡ sign negative
       ++ (hour_digits ++ byte ":" ∷ (minute_digits ++ byte ":" ∷ (second_digits ++ fraction)))
   pub are_hours : AreHours hour_digits hours

@@ -1,15 +1,16 @@
-//! Blocks of 16 bytes, which are looked at together, and fewer bytes as one block.
+//! Blocks of 16 bytes, which are processed at once, and fewer bytes as one block.
 ghost use Rattle.std.specs.Prelude.{◌≡◌, ◌++◌, ◌-◌, ◌≤◌, length, take, drop};
 
 use std::simd::prelude::*;
 
-/// The number of bytes in a block. It is lent to the crates above.
+/// The number of bytes in a block. For the crates above.
 pub const LANES: usize = 16;
 
-// Half the bytes of a block.
+// Half the number of bytes in a block.
 pub(crate) const HALF: usize = 8;
 
-// The last 8 bytes, and after them the first 8. Of fewer than 16 bytes some stand in both.
+// The last 8 bytes, followed by the first 8. If there are fewer than 16 bytes, some are in both
+// halves.
 #[inline(always)]
 pub(crate) fn both_ends(bytes: &[u8]) -> u8x16
     requires { HALF ≤ length bytes.now }

@@ -28,7 +28,7 @@ pub struct TimeFields {
     pub microseconds: u32,
 }
 
-/// How long the literal of a date is.
+/// The length of the literal of a date.
 pub fn date_len(date: DateFields) -> u128
     ensures { result ≡ length (date_literal date) }
 {
@@ -43,7 +43,7 @@ pub fn date_len(date: DateFields) -> u128
     }
 }
 
-/// How long the literal of a time is.
+/// The length of the literal of a time.
 pub fn time_len(time: TimeFields) -> u128
     ensures { result ≡ length (time_literal time) }
 {
@@ -52,7 +52,7 @@ pub fn time_len(time: TimeFields) -> u128
     if time.negative { len + 1 } else { len }
 }
 
-// How long `:MM:SS` and the fraction are.
+// The length of `:MM:SS` and the fraction.
 fn after_hours_len(minutes: u8, seconds: u8, microseconds: u32) -> u128
     ensures exact { result ≡ length (after_hours minutes seconds microseconds) }
     ensures few { result ≤ 100 }
@@ -65,7 +65,7 @@ fn after_hours_len(minutes: u8, seconds: u8, microseconds: u32) -> u128
     }
 }
 
-// How long a number of at least two digits is.
+// The length of a number of at least two digits.
 fn two_digits_len(number: u8) -> usize
     ensures exact { result ≡ length (padded 2 number) }
     ensures few { result ≤ 20 }
@@ -73,7 +73,7 @@ fn two_digits_len(number: u8) -> usize
     decimal_len(number as u64).max(2)
 }
 
-/// Fills the slice with the literal of a date. The slice is exactly `date_len` long.
+/// Fills the slice with the literal of a date. The slice must have exactly the length `date_len`.
 pub fn fill_date(buffer: &mut [u8], date: DateFields)
     requires { length buffer.old ≡ length (date_literal date) }
     ensures { buffer.new ≡ date_literal date }
@@ -121,7 +121,7 @@ fn append_day(buffer: &mut [u8], at: usize, date: DateFields) -> usize
     append_padded(buffer, at, 2, date.day as u64)
 }
 
-/// Fills the slice with the literal of a time. The slice is exactly `time_len` long.
+/// Fills the slice with the literal of a time. The slice must have exactly the length `time_len`.
 pub fn fill_time(buffer: &mut [u8], time: TimeFields)
     requires { length buffer.old ≡ length (time_literal time) }
     ensures { buffer.new ≡ time_literal time }

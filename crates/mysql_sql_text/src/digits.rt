@@ -4,7 +4,7 @@ ghost use Rattle.std.specs.Option.{SomeIff};
 ghost use Rattle.std.specs.Str.Parse.{IsNumeral, digits_value};
 ghost use Rattle.mysql_sql_text.specs.Digits.{value_of_digits};
 
-// So many decimal digits always fit 64 bits: 19 nines are less than 2^64, and 20 are more.
+// This many decimal digits always fit in 64 bits: 19 nines are less than 2^64, and 20 are more.
 const DIGITS_IN_64_BITS: usize = 19;
 
 /// The number that one or more ASCII digits write, if 128 bits hold it.
@@ -20,7 +20,7 @@ pub fn value_of_digits(digits: &[u8]) -> Option<u128>
     parsed_number(digits)
 }
 
-// The number of so few digits that 64 bits hold it, read digit by digit.
+// The number of so few digits that 64 bits hold it. It is read digit by digit.
 pub(crate) fn value_of_few_digits(digits: &[u8]) -> Option<u64>
     requires { length digits.now ≤ DIGITS_IN_64_BITS }
     ensures { result ≡ value_of_digits digits.now }
@@ -38,7 +38,7 @@ pub(crate) fn value_of_few_digits(digits: &[u8]) -> Option<u64>
     Some(number)
 }
 
-// The number, in the words of the standard library's parser.
+// The number, by the parser of the standard library.
 #[tactic(auto, using(crate::proofs::ValueOfDigitsLemmas::numeral_is_utf8))]
 fn parsed_number(digits: &[u8]) -> Option<u128>
     ensures { SomeIff result (IsNumeral 10 digits.now × (digits_value 10 digits.now < 2 ^ 128))

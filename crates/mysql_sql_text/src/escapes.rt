@@ -1,9 +1,9 @@
 //! Bytes between single quotes, with their escapes: their length, and how they fill a slice.
 //!
-//! Most bytes stand for themselves. So the bytes go in blocks of 16, and the escapes of a block are
-//! counted together. When the bytes are written, a block without escapes is copied whole, and one
-//! with few goes from escape to escape. One with many goes four bytes at once, whichever of them
-//! are escaped. The last bytes go byte by byte.
+//! Most bytes stand for themselves. So the bytes are read in blocks of 16, and the escapes of a
+//! block are counted at once. A block without escapes is copied whole. A block with few escapes is
+//! written from escape to escape. A block with many is written four bytes at once, whichever of
+//! them are escaped. The last bytes are written one by one.
 ghost use Rattle.std.specs.Prelude.{◌≡◌, [], ◌∷◌, ◌++◌, ◌+◌, ◌*◌, ◌≤◌, length, take, map, MatchOption};
 ghost use Rattle.std.specs.Int.RustNames.{count_ones};
 ghost use Rattle.std.specs.Simd.Lanes.{mask_l};
@@ -14,16 +14,17 @@ use crate::blocks::{HALF, LANES, both_ends};
 use crate::strings::append_byte;
 use std::simd::prelude::*;
 
-// A block with more escapes than these goes four bytes at once. From escape to escape with up to
-// eight, JSON with short names took 1.4 times the time, and texts with every second byte escaped
-// 1.6. Since more than two go four bytes at once, texts with many take 0.7 of the instructions.
+// A block with more escapes than this is written four bytes at once. From escape to escape with up
+// to eight, JSON with short names took 1.4 times the time, and texts with every second byte escaped
+// took 1.6. Since more than two are written four bytes at once, texts with many escapes take 0.7 of
+// the instructions.
 const FEW_ESCAPES: u32 = 2;
 
 // ASCII's character "substitute".
 const CONTROL_Z: u8 = 26;
 
-// With backslash escapes: what stands after the backslash for each byte, or `.` if the byte stands
-// for itself.
+// With backslash escapes: the byte after the backslash for each byte, or `.` if the byte stands for
+// itself.
 static AFTER_BACKSLASH: [u8; 256] = *b"\
     0.........n..r............Z.....\
     ..\"....'........................\
@@ -35,7 +36,8 @@ static AFTER_BACKSLASH: [u8; 256] = *b"\
     ................................";
 
 // For each set of escaped lanes among four, one bit a lane: the lanes that are written, in order.
-// `128` stands for the first byte of an escape. What follows the last of the four is written over.
+// `128` stands for the first byte of an escape. The bytes after the last of the four are
+// overwritten.
 static PLACES: [[u8; 16]; 16] = [
     [0, 1, 2, 3, 0, 0, 0, 0, 0, 0, 0, 0, 0, 0, 0, 0],
     [128, 0, 1, 2, 3, 0, 0, 0, 0, 0, 0, 0, 0, 0, 0, 0],
@@ -55,7 +57,7 @@ static PLACES: [[u8; 16]; 16] = [
     [128, 0, 128, 1, 128, 2, 128, 3, 0, 0, 0, 0, 0, 0, 0, 0],
 ];
 
-// How long the escaped bytes are. The last block overlaps the one before it, so that no bytes are
+// The length of the escaped bytes. The last block overlaps the one before it, so that no bytes are
 // left over.
 pub(crate) fn escaped_len(bytes: &[u8], no_backslash_escape: bool) -> usize
     ensures exact { result ≡ length (escaped no_backslash_escape bytes.now) }
@@ -78,7 +80,7 @@ pub(crate) fn escaped_len(bytes: &[u8], no_backslash_escape: bool) -> usize
     bytes.len() + escapes
 }
 
-// How many bits are set. Most words have none, and those are not counted.
+// The number of bits that are set. Most words have none, and those are not counted.
 #[inline(always)]
 fn count_set_bits(bits: u64) -> usize
     ensures { result ≡ count_ones bits }
@@ -89,8 +91,8 @@ fn count_set_bits(bits: u64) -> usize
     bits.count_ones() as usize
 }
 
-// `escaped_len` of fewer than 16 bytes. From 8 on they are looked at together, and fewer one by
-// one.
+// `escaped_len` of fewer than 16 bytes. From 8 bytes on they are read at once, and fewer are read
+// one by one.
 #[inline(always)]
 fn escaped_len_of_few(bytes: &[u8], no_backslash_escape: bool) -> usize
     requires { length bytes.now ≤ LANES }
@@ -101,12 +103,12 @@ fn escaped_len_of_few(bytes: &[u8], no_backslash_escape: bool) -> usize
         return escaped_bytes_len(bytes, no_backslash_escape);
     }
     let escapes = escaped_lanes(both_ends(bytes), no_backslash_escape);
-    // Those of the last 8 bytes that are among the first 8 are counted with these alone.
+    // If some of the last 8 bytes are also among the first 8, they are counted only there.
     let counted = escapes >> (LANES - bytes.len());
     bytes.len() + counted.count_ones() as usize
 }
 
-// How long the escaped bytes are, byte by byte.
+// The length of the escaped bytes, byte by byte.
 fn escaped_bytes_len(bytes: &[u8], no_backslash_escape: bool) -> usize
     ensures exact { result ≡ length (escaped no_backslash_escape bytes.now) }
     ensures few { result ≤ 2 * length bytes.now }
@@ -118,7 +120,7 @@ fn escaped_bytes_len(bytes: &[u8], no_backslash_escape: bool) -> usize
     len
 }
 
-// How long an escaped byte is.
+// The length of an escaped byte.
 fn escaped_byte_len(byte: u8, no_backslash_escape: bool) -> usize
     ensures exact { result ≡ length (escaped_byte no_backslash_escape byte) }
     ensures few { result ≤ 2 }
@@ -151,8 +153,8 @@ pub(crate) fn append_escaped(
     append_escaped_bytes(buffer, at, rest, no_backslash_escape)
 }
 
-// Appends the first 16 bytes, escaped. What is written after them is written over, so there is room
-// for all bytes. Inline, since it is the body of a loop over blocks.
+// Appends the first 16 bytes, escaped. The bytes written after them are overwritten later, so there
+// must be room for all bytes. It is inlined, since it is the body of a loop over blocks.
 #[inline(always)]
 fn append_block(buffer: &mut [u8], at: usize, bytes: &[u8], no_backslash_escape: bool) -> usize
     requires block { LANES ≤ length bytes.now }
@@ -166,7 +168,7 @@ fn append_block(buffer: &mut [u8], at: usize, bytes: &[u8], no_backslash_escape:
     if escapes == 0 {
         return append_lanes(buffer, at, block);
     }
-    // 16 bytes are written at once, so as many have to follow the block.
+    // 16 bytes are written at once, so there must be as many after the block.
     if bytes.len() < 2 * LANES {
         return append_escaped_bytes(buffer, at, &bytes[..LANES], no_backslash_escape);
     }
@@ -176,8 +178,8 @@ fn append_block(buffer: &mut [u8], at: usize, bytes: &[u8], no_backslash_escape:
     append_few_escapes(buffer, at, bytes, escapes, no_backslash_escape)
 }
 
-// `append_block`, from escape to escape. What follows an escape is copied whole, 16 bytes at once,
-// and the next escape goes over it. The block's mask says where that stands, so that no byte is
+// `append_block`, from escape to escape. The bytes after an escape are copied whole, 16 at once,
+// and the next escape is written over them. The block's mask gives its place, so no byte is
 // compared again.
 #[inline(always)]
 fn append_few_escapes(
@@ -271,7 +273,7 @@ fn first_byte(no_backslash_escape: bool) -> u8
     if no_backslash_escape { b'\'' } else { b'\\' }
 }
 
-// The last of the bytes that stand for each byte.
+// The last of the bytes that stand for each byte of a block.
 #[inline(always)]
 fn last_bytes(block: u8x16, no_backslash_escape: bool) -> u8x16
     ensures { result ≡ map (last_byte no_backslash_escape) block }
@@ -289,7 +291,7 @@ fn last_bytes(block: u8x16, no_backslash_escape: bool) -> u8x16
     substitutes.select(u8x16::splat(b'Z'), last)
 }
 
-// Appends 16 bytes as they are. Inline, as the loop over blocks that it is a part of.
+// Appends 16 bytes as they are. It is inlined, like the loop over blocks that it is a part of.
 #[inline(always)]
 fn append_lanes(buffer: &mut [u8], at: usize, block: u8x16) -> usize
     requires { at + LANES ≤ length buffer.old }
@@ -300,8 +302,9 @@ fn append_lanes(buffer: &mut [u8], at: usize, block: u8x16) -> usize
     at + LANES
 }
 
-// One bit for each byte, the first byte's lowest: whether it is escaped. Inline, so that the block
-// and the bytes that it is compared with stay in vector registers over the loop.
+// One bit for each byte: whether it is escaped. The lowest bit is that of the first byte. It is
+// inlined, so that the block and the bytes that it is compared with stay in vector registers over
+// the loop.
 #[inline(always)]
 fn escaped_lanes(block: u8x16, no_backslash_escape: bool) -> u64
     ensures { result ≡ mask_l (map (needs_escape no_backslash_escape) block) }

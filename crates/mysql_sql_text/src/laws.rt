@@ -1,5 +1,5 @@
-//! Laws of the definitions that the contracts cite. They do nothing: each is called for what it
-//! ensures.
+//! Laws about the definitions that the contracts cite. They do nothing: each is called for its
+//! `ensures`.
 ghost use Rattle.std.specs.Prelude.{◌≡◌, ℕ, ◌↔◌, ◌≤◌, ◌+◌, ◌*◌, ◌<◌, Bool, List, [], ◌∷◌, None, Some, codes, false, neg_ℤ, pos};
 ghost use Rattle.mysql_sql_text.specs.StringUnits.{with_backslashes, without_backslashes};
 ghost use Rattle.mysql_sql_text.specs.ReadLiteral.{byte_string, null, number, read_literal};
@@ -7,15 +7,15 @@ ghost use Rattle.mysql_sql_text.specs.TimeText.{IsTimeText, total_microseconds};
 ghost use Rattle.mysql_sql_text.specs.LiteralText.{bytes_literal, time_text};
 ghost use Rattle.mysql_sql_text.specs.ReadTimeText.{time_of_text};
 
-/// Exactly the time texts are read, each as what its parts say.
+/// Exactly the time texts are read, and each gives the values of its parts.
 pub fn time_texts_are_read()
     ensures read { (text : List ℕ) (negative : Bool) (microseconds : ℕ) →
         (time_of_text text ≡ Some (negative, microseconds))
         ↔ IsTimeText text negative microseconds }
 {}
 
-/// What stands between the quotes of a time that is not negative, of up to 899 hours and with the
-/// other fields in their usual ranges, reads as its microseconds.
+/// A time that isn't negative, has up to 899 hours and its other fields in their usual ranges is
+/// read back from its text as its microseconds.
 pub fn times_read_back()
     ensures reads_back { (days hours minutes seconds microseconds : ℕ) →
         days * 24 + hours ≤ 899 → minutes ≤ 59 → seconds ≤ 59 → microseconds < 1000000 →
@@ -23,13 +23,13 @@ pub fn times_read_back()
         ≡ Some (false, total_microseconds days hours minutes seconds microseconds) }
 {}
 
-/// The literal of each single byte reads as that byte, in both modes.
+/// The literal of each single byte is read as this byte, in both modes.
 pub fn single_bytes_read_back()
     ensures reads_back { (mode : Bool) (b : ℕ) → b < 256 →
         read_literal mode (bytes_literal mode (b ∷ [])) ≡ Some (byte_string (b ∷ []), []) }
 {}
 
-/// What stands after a backslash in a string, as the reader of literals takes it.
+/// The reading of the bytes after a backslash in a string.
 pub fn escapes_read()
     ensures control { read_literal with_backslashes (codes "'\\0\\b\\t\\n\\r\\Z'")
         ≡ Some (byte_string (0 ∷ 8 ∷ 9 ∷ 10 ∷ 13 ∷ 26 ∷ []), []) }
@@ -48,7 +48,7 @@ pub fn escapes_read()
         ≡ Some (byte_string (codes "\\b\\'"), codes "x") }
 {}
 
-/// How the reader of literals takes numbers, hexadecimal digits and `NULL`.
+/// The reading of numbers, hexadecimal digits and `NULL`.
 pub fn numbers_read()
     ensures hexadecimal { (mode : Bool) → read_literal mode (codes "0xc3A9,")
         ≡ Some (byte_string (0xC3 ∷ 0xA9 ∷ []), codes ",") }

@@ -1,6 +1,6 @@
-//! Decimal digits into a slice.
+//! Decimal digits that are written into a slice.
 //!
-//! `fill_..` writes the whole slice. `append_..` writes from an index on, keeps what stands before
+//! `fill_..` writes the whole slice. `append_..` writes from an index on, keeps the bytes before
 //! it, and returns the index after the last byte that it wrote.
 ghost use Rattle.std.specs.Prelude.{◌≡◌, ◌∷◌, ◌++◌, ◌+◌, ◌/◌, ◌%◌, ◌<◌, ◌≤◌, length, take, drop};
 ghost use Rattle.std.specs.Fmt.{decimal, signed_decimal};
@@ -15,7 +15,7 @@ static TWO_DIGITS: [u8; 200] = *b"\
     6061626364656667686970717273747576777879\
     8081828384858687888990919293949596979899";
 
-/// How long a signed number is, with its `-`.
+/// The length of a signed number, with its `-`.
 pub fn signed_len(number: i64) -> u128
     ensures { result ≡ length (signed_decimal number) }
 {
@@ -23,21 +23,21 @@ pub fn signed_len(number: i64) -> u128
     if number < 0 { digits + 1 } else { digits }
 }
 
-/// How many decimal digits a number has.
+/// The number of decimal digits of a number.
 ///
-/// It divides nothing: the digits are guessed from the bits, and one power of ten decides.
+/// It needs no division: it estimates the digits from the bits, and one power of ten decides.
 pub fn decimal_len(mut number: u64) -> usize
     ensures exact { result ≡ length (decimal number) }
     ensures few { result ≤ 20 }
 {
     if number == 0 {
-        // It has as many digits.
+        // Zero has as many digits as 1.
         number = 1;
     }
     number.ilog10() as usize + 1
 }
 
-/// Fills the slice with a signed number. The slice is exactly `signed_len` long.
+/// Fills the slice with a signed number. The slice must have exactly the length `signed_len`.
 pub fn fill_signed(buffer: &mut [u8], number: i64)
     requires { length buffer.old ≡ length (signed_decimal number) }
     ensures { buffer.new ≡ signed_decimal number }
@@ -50,9 +50,10 @@ pub fn fill_signed(buffer: &mut [u8], number: i64)
     }
 }
 
-/// Fills the slice with a number, after zeros. The slice is at least as long as the digits.
+/// Fills the slice with a number, after zeros. The slice must be at least as long as the digits.
 ///
-/// Two digits go at a time, from the last ones on, so that only every second one costs a division.
+/// Two digits are written at once, from the last ones on, so only every second digit costs a
+/// division.
 pub fn fill_padded(buffer: &mut [u8], mut number: u64)
     requires { length (decimal number) ≤ length buffer.old }
     ensures { buffer.new ≡ padded (length buffer.old) number }
@@ -69,7 +70,8 @@ pub fn fill_padded(buffer: &mut [u8], mut number: u64)
     buffer[0] = b'0' + (number % 10) as u8;
 }
 
-// Writes the two digits of a number below 100 at an index. Inline, since it is the body of a loop.
+// Writes the two digits of a number below 100 at an index. It is inlined, since it is the body of a
+// loop.
 #[inline(always)]
 fn put_two_digits(buffer: &mut [u8], at: usize, number: u64)
     requires within { at + 2 ≤ length buffer.old }
@@ -82,7 +84,7 @@ fn put_two_digits(buffer: &mut [u8], at: usize, number: u64)
     buffer[at + 1] = TWO_DIGITS[digits + 1];
 }
 
-// Appends a number, after as many zeros as the width asks for.
+// Appends a number with at least `width` digits, by zeros before it.
 pub(crate) fn append_padded(buffer: &mut [u8], at: usize, width: usize, number: u64) -> usize
     requires { at + length (padded width number) ≤ length buffer.old }
     ensures next { result ≡ at + length (padded width number) }

@@ -1,11 +1,11 @@
-//! Literals of bytes: strings with their escapes, and hexadecimal.
+//! Literals of bytes: strings with their escapes, and hexadecimal literals.
 ghost use Rattle.std.specs.Prelude.{◌≡◌, [], ◌∷◌, ◌++◌, ◌+◌, ◌*◌, ◌<◌, ◌≤◌, length, take, codes};
 ghost use Rattle.mysql_sql_text.specs.LiteralText.{bytes_literal, escaped, hexadecimal_digit, hexadecimal, quoted};
 
 use crate::escapes::{append_escaped, escaped_len};
 use crate::utf8::is_utf8;
 
-/// How long the literal of bytes is.
+/// The length of the literal of bytes.
 pub fn bytes_literal_len(bytes: &[u8], no_backslash_escape: bool) -> u128
     ensures { result ≡ length (bytes_literal no_backslash_escape bytes.now) }
 {
@@ -16,14 +16,15 @@ pub fn bytes_literal_len(bytes: &[u8], no_backslash_escape: bool) -> u128
     }
 }
 
-/// Fills the slice with the literal of bytes: a string if they are UTF-8, else hexadecimal. The
-/// slice is exactly `bytes_literal_len` long.
+/// Fills the slice with the literal of bytes: a string if they are UTF-8, or else a hexadecimal
+/// literal. The slice must have exactly the length `bytes_literal_len`.
 pub fn fill_bytes_literal(buffer: &mut [u8], bytes: &[u8], no_backslash_escape: bool)
     requires { length buffer.old ≡ length (bytes_literal no_backslash_escape bytes.now) }
     ensures { buffer.new ≡ bytes_literal no_backslash_escape bytes.now }
 {
-    // Unless every byte is escaped, a string is shorter than hexadecimal. So a buffer shorter than
-    // hexadecimal means UTF-8, as the length has found already, and the check is skipped.
+    // Unless every byte is escaped, a string is shorter than a hexadecimal literal. So a buffer
+    // that is shorter than that means UTF-8. The computation of the length has tested it, so no
+    // test is needed.
     if (buffer.len() as u128) < 2 + 2 * bytes.len() as u128 {
         return fill_string(buffer, bytes, no_backslash_escape);
     }
@@ -34,7 +35,7 @@ pub fn fill_bytes_literal(buffer: &mut [u8], bytes: &[u8], no_backslash_escape: 
     }
 }
 
-/// How long bytes between quotes are, escaped.
+/// The length of bytes between quotes, escaped.
 pub fn string_len(bytes: &[u8], no_backslash_escape: bool) -> u128
     ensures exact { result ≡ length (quoted (escaped no_backslash_escape bytes.now)) }
     ensures few { result ≤ 2 + 2 * length bytes.now }
@@ -42,7 +43,8 @@ pub fn string_len(bytes: &[u8], no_backslash_escape: bool) -> u128
     2 + escaped_len(bytes, no_backslash_escape) as u128
 }
 
-/// Fills the slice with bytes between quotes, escaped. The slice is exactly `string_len` long.
+/// Fills the slice with bytes between quotes, escaped. The slice must have exactly the length
+/// `string_len`.
 pub fn fill_string(buffer: &mut [u8], bytes: &[u8], no_backslash_escape: bool)
     requires { length buffer.old ≡ length (quoted (escaped no_backslash_escape bytes.now)) }
     ensures { buffer.new ≡ quoted (escaped no_backslash_escape bytes.now) }

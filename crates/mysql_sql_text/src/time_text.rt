@@ -1,4 +1,4 @@
-//! Time texts, read.
+//! Reading of time texts.
 ghost use Rattle.std.specs.Prelude.{◌≡◌, ◌<◌, ◌≤◌, ◌^◌, ℕ, Bool, [], ◌∷◌, length, Some, IfNone, IfSome};
 ghost use Rattle.mysql_sql_text.specs.Digits.{value_of_digits};
 ghost use Rattle.mysql_sql_text.specs.TimeText.{IsTimeText};
@@ -6,8 +6,8 @@ ghost use Rattle.mysql_sql_text.specs.ReadTimeText.{at_most, fraction_of, fracti
 
 use crate::digits::value_of_few_digits;
 
-/// Whether a time text is negative, and how many microseconds it says; none if the bytes are no
-/// time text.
+/// Reads a time text: whether it is negative, and the number of its microseconds. `None` if the
+/// bytes aren't a time text.
 pub fn read_time_text(text: &[u8]) -> Option<(bool, u64)>
     ensures reads { IfSome result (λ time. IsTimeText text.now time.0 time.1) }
     ensures none { IfNone result ((negative : Bool) (microseconds : ℕ) →
@@ -18,7 +18,7 @@ pub fn read_time_text(text: &[u8]) -> Option<(bool, u64)>
     read_signed(text)
 }
 
-// The same, by the definition that is a function.
+// The same, by the definition as a function.
 fn read_signed(text: &[u8]) -> Option<(bool, u64)>
     ensures exact { result ≡ time_of_text text.now }
     ensures few { IfSome result (λ time. time.1 < 2 ^ 42) }
@@ -71,7 +71,7 @@ fn three_digit_hours(a: u8, b: u8, c: u8) -> Option<u32>
     if number <= 899 { Some(number) } else { None }
 }
 
-// With these hours, the microseconds of what stands after their colon.
+// The microseconds of a time with these hours, and this text after their colon.
 fn read_after_hours(hours: u32, text: &[u8]) -> Option<u64>
     requires { hours < 1000 }
     ensures exact { result ≡ time_after_hours (Some hours) text.now }
@@ -98,7 +98,7 @@ fn number_up_to_59(a: u8, b: u8) -> Option<u32>
     if number <= 59 { Some(number) } else { None }
 }
 
-// The microseconds of what stands after the seconds.
+// The microseconds of the text after the seconds.
 fn read_fraction(text: &[u8]) -> Option<u64>
     ensures exact { result ≡ fraction_of text.now }
     ensures few { IfSome result (λ number. number < 1000000) }

@@ -1,11 +1,11 @@
-//! Whether bytes are UTF-8. Most texts are ASCII or begin so, and that is seen 16 bytes at once.
+//! A test for UTF-8. Most texts are ASCII or begin with ASCII, which is tested 16 bytes at once.
 ghost use Rattle.std.specs.Prelude.{◌≡◌, ◌+◌, ◌≤◌, length, take, drop, IsTrue};
 ghost use Rattle.std.specs.Str.{IsAscii, is_utf8};
 
 use crate::blocks::{HALF, LANES, both_ends};
 use std::simd::prelude::*;
 
-/// Whether bytes are UTF-8. It is lent to the crate above.
+/// Whether bytes are UTF-8. For the crate above.
 pub fn is_utf8(bytes: &[u8]) -> bool
     ensures { result ≡ is_utf8 bytes.now }
 {
@@ -17,8 +17,8 @@ pub fn is_utf8(bytes: &[u8]) -> bool
 }
 
 // A number of bytes at the front that are ASCII: those before the first block that isn't ASCII, or
-// all. The last block overlaps the one before it, so that no bytes are left over. `is_utf8` looks
-// at the bytes after them, so the contract needn't say that these are the most.
+// all. The last block overlaps the one before it, so that no bytes are left over. `is_utf8` tests
+// the bytes after them, so the contract needn't say that the number is the greatest.
 fn ascii_front_len(bytes: &[u8]) -> usize
     ensures within { result ≤ length bytes.now }
     ensures ascii { IsAscii (take result bytes.now) }
@@ -40,8 +40,8 @@ fn ascii_front_len(bytes: &[u8]) -> usize
     }
 }
 
-// `ascii_front_len` of fewer than 16 bytes. From 8 on they are looked at together, and fewer one by
-// one.
+// `ascii_front_len` of fewer than 16 bytes. From 8 bytes on they are read at once, and fewer are
+// read one by one.
 fn ascii_front_of_few(bytes: &[u8]) -> usize
     requires { length bytes.now ≤ LANES }
     ensures within { result ≤ length bytes.now }
@@ -58,7 +58,7 @@ fn ascii_front_of_few(bytes: &[u8]) -> usize
     bytes.len()
 }
 
-// `ascii_front_len` of 8 bytes to 16, by the first 8 and the last 8: all, or none.
+// `ascii_front_len` of 8 to 16 bytes, by the first 8 and the last 8: all bytes, or none.
 #[inline(always)]
 fn ascii_front_of_ends(bytes: &[u8]) -> usize
     requires at_least { HALF ≤ length bytes.now }
@@ -73,7 +73,7 @@ fn ascii_front_of_ends(bytes: &[u8]) -> usize
     }
 }
 
-// Whether the 16 bytes from this one on are all ASCII.
+// Whether the 16 bytes from the index `at` on are all ASCII.
 #[inline(always)]
 fn is_ascii_block(bytes: &[u8], at: usize) -> bool
     requires { at + LANES ≤ length bytes.now }
