@@ -1,15 +1,16 @@
--- What a call returns that may be out of memory: one definition for all crates.
+-- The result of a call that can be out of memory: one definition for all crates.
 use Rattle.std.specs.Prelude.{◌≡◌, Option, None, Some, Result, Ok, Err}
 
--- the refusal is the expected one; if there is no refusal the call is out of memory, which it may
--- be only if it allocates
+-- The refusal is the expected one. If there is no refusal, the call is out of memory, which is
+-- possible only if it allocates.
 abbrev pub IsExpectedRefusal : {Seen Refusal : Type 0} → Result Seen Refusal → Type 0
     → Option Refusal → Type 0
 IsExpectedRefusal expected takes_memory (Some refusal) = expected ≡ Err refusal
 IsExpectedRefusal expected takes_memory None = takes_memory
 
--- The result is what is expected: what contracts see of its value, or the refusal that its error
--- is. Or it is out of memory, only if the call allocates: the one error that is no refusal.
+-- The result is the expected one: the view of its value, or the refusal that its error reports. Or
+-- it is out of memory, which is possible only if the call allocates, and which is the only error
+-- that is no refusal.
 abbrev pub IsAnswer : {A Seen E Refusal : Type 0} → (A → Seen) → (E → Option Refusal)
     → Result Seen Refusal → Type 0 → Result A E → Type 0
 IsAnswer seen refusal_of expected takes_memory (Ok value) = expected ≡ Ok (seen value)

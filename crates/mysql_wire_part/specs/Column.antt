@@ -2,7 +2,7 @@
 use Rattle.std.specs.Prelude.{ℕ, Bool, ◌==◌, bit_and}
 use Rattle.mysql_wire_part.specs.declared.column.ColumnFlags.{ColumnFlags}
 
--- all bits of the flags, those without a name too
+-- all bits of the flags, even those without a name
 abbrev pub flag_bits : ColumnFlags → ℕ
 flag_bits flags = flags.0
 

@@ -1,10 +1,10 @@
--- Length-encoded strings, as they are written and as they are read (MySQL client/server protocol,
+-- Length-encoded strings, written and read (MySQL client/server protocol,
 -- "Protocol::LengthEncodedInteger" and "Protocol::LengthEncodedString").
 use Rattle.std.specs.Prelude.{◌≡◌, ℕ, ◌^◌, nat_lt, List, [], ◌∷◌, ◌++◌, length, Ok, Err, if◌then◌else◌, ◌==◌}
 use Rattle.byteorder.specs.Endian.{little_bytes}
 use Rattle.mysql_wire_part.specs.Reading.{Reading, bad_length_lead, unexpected_eof, read_bytes, read_number, and_then_read}
 
--- the least byte that is no length by itself
+-- the least byte that isn't a length itself
 abbrev pub least_lead : ℕ
 least_lead = 0xFB
 
@@ -20,7 +20,8 @@ lead_of_three = 0xFD
 abbrev pub lead_of_eight : ℕ
 lead_of_eight = 0xFE
 
--- a length is written in the first of one, two, three and eight bytes that hold it
+-- A length below 251 is written in one byte. Any other is written in the first of two, three and
+-- eight bytes that hold it, after the lead of this number of bytes.
 abbrev pub length_spelling : ℕ → List ℕ
 length_spelling n =
     if nat_lt n least_lead then n ∷ [] else (
@@ -32,8 +33,8 @@ length_spelling n =
 abbrev pub lenenc_spelling : List ℕ → List ℕ
 lenenc_spelling text = length_spelling (length text) ++ text
 
--- a length is read from any of the four spellings, also from one longer than needed; FB and FF
--- begin none
+-- A length is read from any of the four forms, even from a longer one than needed. FB and FF begin
+-- none.
 abbrev pub read_length : List ℕ → Reading ℕ
 read_length [] = Err unexpected_eof
 read_length (lead ∷ bytes) =
@@ -43,11 +44,11 @@ read_length (lead ∷ bytes) =
     if lead == lead_of_eight then read_number 8 bytes else
     Err (bad_length_lead lead))))
 
--- a string is read as a length and that many bytes
+-- a string is read as a length and as many bytes
 abbrev pub read_lenenc : List ℕ → Reading (List ℕ)
 read_lenenc bytes = and_then_read (read_length bytes) read_bytes
 
--- before any bytes, the written string reads as this string and leaves these bytes
+-- before any bytes, the written string is read as this string, and these bytes are left
 abbrev pub LenencReadsBack : List ℕ → Type 0
 LenencReadsBack text =
     (rest : List ℕ) → read_lenenc (lenenc_spelling text ++ rest) ≡ Ok (text, rest)

@@ -4,7 +4,7 @@ ghost use Rattle.mysql_wire_part.specs.Column.{flag_bits, unsigned_flag};
 
 use bitflags::{Flag, Flags, bitflag_items};
 
-/// The type of a column, after "Protocol::ColumnType" of the MySQL client/server protocol.
+/// The type of a column, by "Protocol::ColumnType" of the MySQL client/server protocol.
 #[derive(Clone, Copy, Debug, PartialEq, Eq)]
 pub enum ColumnType {
     MYSQL_TYPE_DECIMAL,
@@ -43,8 +43,8 @@ pub enum ColumnType {
     MYSQL_TYPE_GEOMETRY,
 }
 
-/// Flags of a column, after "Column Definition Flags" of the MySQL client/server protocol. Bits
-/// without a name here are kept.
+/// Flags of a column, by "Column Definition Flags" of the MySQL client/server protocol. Bits that
+/// have no name here are kept.
 #[derive(Clone, Copy, Debug, PartialEq, Eq)]
 pub struct ColumnFlags(u16);
 

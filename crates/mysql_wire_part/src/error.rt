@@ -1,4 +1,4 @@
-//! Why nothing was read.
+//! The causes for which nothing was read.
 ghost use Rattle.std.specs.Prelude.{◌≡◌, alloc_error};
 ghost use Rattle.mysql_wire_part.specs.declared.error.WireError.TheVariants.{Memory};
 
@@ -6,19 +6,19 @@ use crate::column::ColumnType;
 use std::alloc::AllocError;
 use thiserror::Error;
 
-/// Why nothing was read. The buffer is then as before the call.
+/// The cause for which nothing was read. The buffer is unchanged.
 #[derive(Debug, PartialEq, Drop, Error)]
 pub enum WireError {
-    /// Fewer bytes are left than are to be read.
+    /// The buffer has fewer bytes left than needed.
     #[error("Unexpected end of buffer")]
     UnexpectedEof,
-    /// A length is to be read, and this byte begins none: 251 (FB) or 255 (FF).
+    /// A length is expected, and it can't begin with this byte: 251 (FB) or 255 (FF).
     #[error("Bad length lead {0}")]
     BadLengthLead(u8),
-    /// Values of this column type are not read.
+    /// Values of this column type can't be read.
     #[error("Unsupported column type")]
     UnsupportedColumn(ColumnType),
-    /// Memory for what was read was refused.
+    /// Memory for the value was refused.
     #[error("out of memory")]
     Memory(AllocError),
 }

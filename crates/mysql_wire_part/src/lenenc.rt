@@ -9,14 +9,14 @@ use crate::error::WireError;
 use byteorder::{ByteOrder, LittleEndian};
 use std::alloc::AllocError;
 
-// The least lengths that take 2, 3 and 8 bytes after a lead; a smaller one is a byte by itself.
+// The least lengths that take 2, 3 and 8 bytes after a lead. A smaller length is a single byte.
 const LEAST_OF_TWO: u64 = 251;
 
 const LEAST_OF_THREE: u64 = 0x1_0000;
 
 const LEAST_OF_EIGHT: u64 = 0x100_0000;
 
-// The leads of these lengths. FB is the least byte that is no length by itself; neither it nor FF
+// The leads of these lengths. FB is the least byte that isn't a length itself. Neither FB nor FF
 // begins a length.
 const LEAST_LEAD: u8 = 0xFB;
 
@@ -26,8 +26,8 @@ const LEAD_OF_THREE: u8 = 0xFD;
 
 const LEAD_OF_EIGHT: u8 = 0xFE;
 
-/// The number of bytes that these bytes take as a length-encoded string (MySQL client/server
-/// protocol, "Protocol::LengthEncodedString").
+/// The length of these bytes as a length-encoded string (MySQL client/server protocol,
+/// "Protocol::LengthEncodedString").
 pub fn lenenc_str_len(bytes: &[u8]) -> u64
     ensures count { result ≡ length (lenenc_spelling bytes.now) }
 {
@@ -41,7 +41,7 @@ pub fn lenenc_str_len(bytes: &[u8]) -> u64
 }
 
 /// Appends the bytes as a length-encoded string (MySQL client/server protocol,
-/// "Protocol::LengthEncodedString"). On out of memory the vector is as before.
+/// "Protocol::LengthEncodedString"). If memory is refused, the vector is unchanged.
 #[tactic(auto, using(crate::proofs::LenencLemmas::lenenc_reads_back))]
 pub fn put_lenenc_str(buf: &mut Vec<u8>, bytes: &[u8]) -> Result<(), AllocError>
     ensures appended { OnOk result (buf.new.items ≡ buf.old.items ++ lenenc_spelling bytes.now) }
@@ -54,8 +54,8 @@ pub fn put_lenenc_str(buf: &mut Vec<u8>, bytes: &[u8]) -> Result<(), AllocError>
     buf.extend_from_slice(bytes)
 }
 
-/// Fills the slice with the bytes as a length-encoded string. The slice has to have exactly
-/// [`lenenc_str_len`] bytes. Nothing is allocated, and nothing refuses.
+/// Fills the slice with the bytes as a length-encoded string. The slice must have exactly
+/// [`lenenc_str_len`] bytes. It allocates nothing and is never refused.
 pub fn fill_lenenc_str(slice: &mut [u8], bytes: &[u8])
     requires exact { length slice.old ≡ length (lenenc_spelling bytes.now) }
     ensures filled { slice.new ≡ lenenc_spelling bytes.now }
@@ -65,7 +65,7 @@ pub fn fill_lenenc_str(slice: &mut [u8], bytes: &[u8])
     slice[count..].copy_from_slice(bytes);
 }
 
-// The spelling of a length, at the front of the array, and the number of its bytes.
+// The bytes of a length, at the front of the array, and their number.
 fn length_head(len: u64) -> ([u8; 9], usize)
     ensures few { result.1 ≤ 9 }
     ensures spelled { take result.1 result.0 ≡ length_spelling len }
@@ -90,7 +90,7 @@ fn length_head(len: u64) -> ([u8; 9], usize)
     (head, 9)
 }
 
-// The length at the front of the bytes, and the bytes that follow it.
+// The length at the front of the bytes, and the bytes after it.
 pub(crate) fn length_at(bytes: &[u8]) -> Result<(u64, &[u8]), WireError>
     ensures read { IsAnswer (λ read. (read.0, read.1.now)) read_refusal
         (read_length bytes.now) ⊥ result }
@@ -105,7 +105,7 @@ pub(crate) fn length_at(bytes: &[u8]) -> Result<(u64, &[u8]), WireError>
     }
 }
 
-// The number of the next `count` bytes, and the bytes that follow them.
+// The number of the next `count` bytes, and the bytes after them.
 fn number_at(bytes: &[u8], count: usize) -> Result<(u64, &[u8]), WireError>
     requires low { 1 ≤ count }
     requires high { count ≤ 8 }

@@ -1,5 +1,5 @@
-//! What MySQL values need of the wire: a buffer that is read from its front, length-encoded
-//! strings, types and flags of columns, and the traits of what is written and read.
+//! The parts of the wire protocol that MySQL values need: a buffer that is read from its front,
+//! length-encoded strings, types and flags of columns, and the traits for writing and reading.
 #![tactic(auto)]
 
 mod codec;
@@ -15,5 +15,5 @@ pub use crate::error::WireError;
 pub use crate::lenenc::{fill_lenenc_str, lenenc_str_len, put_lenenc_str};
 pub use crate::parse_buf::ParseBuf;
 
-// What `ColumnFlags` can do, as `contains`.
+// The capabilities of `ColumnFlags`, such as `contains`.
 pub use bitflags::Flags;

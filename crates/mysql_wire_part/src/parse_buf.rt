@@ -10,9 +10,9 @@ use crate::error::WireError;
 use crate::lenenc::length_at;
 use byteorder::{ByteOrder, LittleEndian};
 
-/// The bytes that are left of a buffer. Each call that eats takes what it returns off the front.
-/// It returns `None` if too few bytes are left; after that, and after an error, the buffer is as
-/// before. Numbers and strings stand as in "Protocol::FixedLengthInteger" and
+/// The bytes of a buffer that are left. Each call that eats takes the bytes of its result off the
+/// front. It returns `None` if too few bytes are left. After `None` or an error, the buffer is
+/// unchanged. Numbers and strings have the forms "Protocol::FixedLengthInteger" and
 /// "Protocol::LengthEncodedString" of the MySQL client/server protocol.
 #[derive(Clone, Copy, Debug, PartialEq, Eq)]
 pub struct ParseBuf<'a>(pub &'a [u8]);
@@ -25,7 +25,7 @@ impl<'a> ParseBuf<'a> {
         self.0.is_empty()
     }
 
-    /// How many bytes are left.
+    /// The number of bytes that are left.
     pub fn len(&self) -> usize
         ensures count { result ≡ length (left self.now) }
     {
@@ -110,8 +110,8 @@ impl<'a> ParseBuf<'a> {
         Some(ParseBuf(front))
     }
 
-    /// The next length-encoded string, as a slice of the input. `UnexpectedEof` if the length or
-    /// the string is cut, `BadLengthLead` if FB or FF stands for a length.
+    /// The next length-encoded string, as a slice of the input. The error is `UnexpectedEof` if the
+    /// length or the string is cut. It is `BadLengthLead` if FB or FF is in place of a length.
     pub fn eat_lenenc_str(&mut self) -> Result<&'a [u8], WireError>
         // It allocates nothing, so it is never out of memory.
         ensures read { IsAnswer (λ text. (text.now, left self.new)) read_refusal
