@@ -1,6 +1,6 @@
--- What a run leaves of its reader and its writer. Contracts see of a reader the bytes that it has
--- left, and of a writer the bytes that it has taken. A reader or writer that tells `None` tells no
--- bytes, and then these definitions say nothing of what was read or written.
+-- The state in which a run leaves its reader and its writer. For contracts, a reader has the bytes
+-- that are left, and a writer the bytes that it has taken. If a reader or writer has `None` in
+-- place of these bytes, these definitions say nothing about its reads or writes.
 use Rattle.std.specs.Prelude.{◌<◌, ℕ, List, length, take, Option}
 use Rattle.std.specs.Io.KnownBytes.{Consumes, IsAtEnd, Appends}
 

@@ -1,6 +1,6 @@
-//! Reading to the end and writing the whole. No failed call is repeated.
+//! Reading to the end, and writing the whole. A call that fails isn't repeated.
 //!
-//! It is lent to the programs `mysql_query` and `mysql_bind`.
+//! For the programs `mysql_query` and `mysql_bind`.
 ghost use Rattle.std.specs.Prelude.{IfOk, OnErr, OnOk};
 ghost use Rattle.std.specs.Io.KnownBytes.{Appends};
 ghost use Rattle.mysql_io.specs.ReadersAndWriters.{ReadsWhole, AppendsPrefix};
@@ -9,12 +9,12 @@ use std::alloc::{AllocError, Global};
 use std::io;
 use std::io::{Read, Write};
 
-/// Why a reader can't be read to its end.
+/// The cause for which a reader can't be read to its end.
 #[derive(Drop)]
 pub enum ReadError {
     /// A read failed.
     Read,
-    /// Out of memory.
+    /// Memory was refused.
     Memory(AllocError),
 }
 
@@ -40,7 +40,7 @@ impl From<AllocError> for ReadError {
     }
 }
 
-/// All bytes that the reader has left. It is read until a read returns none.
+/// Returns all bytes that the reader has left. It reads until a read returns no byte.
 pub fn read_whole<R: Read>(alloc: Global, input: &mut R) -> Result<Vec<u8>, ReadError>
     ensures { IfOk result (λ bytes.
         ReadsWhole (R.remaining input.old) (R.remaining input.new) bytes.items) }
@@ -66,7 +66,7 @@ impl From<io::Error> for WriteError {
     }
 }
 
-/// Writes the whole text. On an error the writer took a prefix of it, and not the whole.
+/// Writes the whole text. On an error, the writer took only a prefix of it, and not the whole.
 pub fn write_whole<W: Write>(output: &mut W, text: &[u8]) -> Result<(), WriteError>
     ensures ok { OnOk result (Appends (W.contents output.old) (W.contents output.new) text.now) }
     ensures prefix { OnErr result (
