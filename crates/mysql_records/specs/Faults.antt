@@ -1,6 +1,6 @@
--- What stands in a text where no record has it, and what is read before that. It is the first byte
--- that no record has where it stands, or a quote that no quote ends: laws `faults_are_first` and
--- `faults_are_unambiguous`.
+-- The faults of a text, which no record has at their places, and the text that is read before one.
+-- A fault is the first byte that no record has at its place, or a quote that no quote ends: the
+-- laws `faults_are_first` and `faults_are_unambiguous`.
 use Rattle.std.specs.Prelude.{◌≡◌, ◌≢◌, ℕ, ◌<◌, true, false, IsTrue, IsFalse, List, [], ◌∷◌, ◌++◌, length, take, drop, Option, None, ⊤}
 use Rattle.std.specs.Str.{byte}
 use Rattle.mysql_records.specs.Formats.{backslash, carriage_return, doubles_quotes, escape_value, has_escapes, has_quotes, newline, quote, separator}
@@ -12,17 +12,17 @@ use Rattle.mysql_records.specs.declared.fault.FaultKind.TheVariants.{StrayReturn
 use Rattle.mysql_records.specs.declared.fault.RecordError.{RecordError}
 use Rattle.mysql_records.specs.declared.fault.RecordError.TheVariants.{Fault as FaultError, Memory}
 
--- the text begins with no escape: it has no second byte, or one that makes no escape
+-- the text begins with no escape: it is empty, or its first byte makes no escape
 abbrev pub HasNoEscape : List ℕ → Type 0
 HasNoEscape [] = ⊤
 HasNoEscape (c ∷ text) = escape_value c ≡ None
 
--- the byte isn't the first one of the text
+-- the byte isn't the first byte of the text
 abbrev pub BeginsWithNo : ℕ → List ℕ → Type 0
 BeginsWithNo b [] = ⊤
 BeginsWithNo b (a ∷ text) = a ≢ b
 
--- What the text from a fault on begins with. Behind an open quote, pieces stand to the end.
+-- The front of the text from a fault on. After an open quote, there are pieces to the end.
 abbrev pub IsFaultAt : RecordFormat → FaultKind → List ℕ → Type 0
 IsFaultAt format kind [] = ⊥
 IsFaultAt format StrayReturn (a ∷ text) = (a ≡ carriage_return) × BeginsWithNo newline text
@@ -34,13 +34,14 @@ IsFaultAt format BehindQuote (a ∷ text) =
     × (IsTrue (doubles_quotes format true) → a ≢ quote)
 IsFaultAt format UnknownEscape (a ∷ text) = (a ≡ backslash) × HasNoEscape text
 
--- the text begins with no NULL that ends there
+-- the text doesn't begin with a NULL that ends there
 abbrev pub BeginsWithNoNull : RecordFormat → List ℕ → Type 0
 BeginsWithNoNull format text =
     (rest : List ℕ) → EndsField format rest → text ≢ backslash ∷ byte "N" ∷ rest
 
--- What is read of a field before a fault of this kind, in a format that has the kind: pieces
--- without quotes, a quote and pieces, or a field in quotes. The text from the fault on is `back`.
+-- The part of a field that is read before a fault of this kind, in a format that has the kind:
+-- pieces without quotes, a quote and pieces, or a field in quotes. The text from the fault on is
+-- `back`.
 pub data IsFieldBefore (format : RecordFormat) (back : List ℕ) : FaultKind → List ℕ → Type 0 where
   return_bare : (bytes text : List ℕ) → IsFalse (has_escapes format)
       → IsPieces format false bytes text → IsFieldBefore format back StrayReturn text
@@ -60,7 +61,8 @@ pub data IsFieldBefore (format : RecordFormat) (back : List ℕ) : FaultKind →
       → IsTrue (has_quotes format) → IsPieces format true bytes text
       → IsFieldBefore format back UnknownEscape (quote ∷ text)
 
--- what is read of a record: whole fields, each with a separator, and the front of the next one
+-- the part of a record that is read: whole fields, each with a separator, and the front of the next
+-- one
 pub data IsRecordBefore (format : RecordFormat) (back : List ℕ) (kind : FaultKind)
     : List ℕ → Type 0 where
   in_field : (text : List ℕ) → IsFieldBefore format back kind text
@@ -69,7 +71,8 @@ pub data IsRecordBefore (format : RecordFormat) (back : List ℕ) (kind : FaultK
       → IsRecordBefore format back kind rest
       → IsRecordBefore format back kind (text ++ separator format ∷ rest)
 
--- what is read of a table: whole records, each with a line end, and the front of the next one
+-- the part of a table that is read: whole records, each with a line end, and the front of the next
+-- one
 pub data IsTableBefore (format : RecordFormat) (back : List ℕ) (kind : FaultKind)
     : List ℕ → Type 0 where
   in_record : (text : List ℕ) → IsRecordBefore format back kind text
@@ -87,19 +90,19 @@ pub record IsFaulty (format : RecordFormat) (text : List ℕ) (fault : Fault) : 
   pub before : IsRecordBefore format (drop fault.at text) fault.kind (take fault.at text)
   pub stands : IsFaultAt format fault.kind (drop fault.at text)
 
--- a fault for what the text has; nothing is said of out of memory
+-- a fault of the text; nothing is said about out of memory
 abbrev pub IsRefusal : RecordFormat → List ℕ → RecordError → Type 0
 IsRefusal format text (FaultError fault) = IsFaulty format text fault
 IsRefusal format text (Memory error) = ⊤
 
--- the text is no table, and this fault is the first in it
+-- the text isn't a table, and this fault is the first in it
 pub record IsFaultyTable (format : RecordFormat) (text : List ℕ) (fault : Fault) : Type 0 where
   pub none : (rows : List (List (Option (List ℕ)))) → IsTable format rows text → ⊥
   pub within : fault.at < length text
   pub before : IsTableBefore format (drop fault.at text) fault.kind (take fault.at text)
   pub stands : IsFaultAt format fault.kind (drop fault.at text)
 
--- a fault for what the table has; nothing is said of out of memory
+-- a fault of the table; nothing is said about out of memory
 abbrev pub IsTableRefusal : RecordFormat → List ℕ → RecordError → Type 0
 IsTableRefusal format text (FaultError fault) = IsFaultyTable format text fault
 IsTableRefusal format text (Memory error) = ⊤

@@ -1,5 +1,5 @@
--- What is read at the front of a text in one step: pieces, a field, what follows a field. Private
--- contracts cite this; the public ones cite Records and Faults only.
+-- The parts that are read at the front of a text in one step: pieces, a field, the end of a field.
+-- Private contracts cite this module. The public ones cite only Records and Faults.
 use Rattle.std.specs.Prelude.{◌≡◌, ◌≢◌, ℕ, Bool, IsTrue, List, [], ◌∷◌, ◌++◌, Option, ⊤}
 use Rattle.mysql_records.specs.Formats.{is_special, separator}
 use Rattle.mysql_records.specs.Records.{IsPiece, IsPieces, IsField, EndsField, EndsRecord}
@@ -16,7 +16,7 @@ unfoldable pub StartsNoPiece : RecordFormat → Bool → List ℕ → Type 0
 StartsNoPiece format quoted text =
     (b : ℕ) (piece rest : List ℕ) → IsPiece format quoted b piece → text ≢ piece ++ rest
 
--- the text is a row of pieces and this rest, which begins with no further piece
+-- the text is a row of pieces, followed by this rest, which doesn't begin with another piece
 pub record BeginsWithPieces (format : RecordFormat) (quoted : Bool) (text bytes rest : List ℕ)
     : Type 0 where
   pub front : List ℕ
@@ -24,7 +24,7 @@ pub record BeginsWithPieces (format : RecordFormat) (quoted : Bool) (text bytes 
   pub are_pieces : IsPieces format quoted bytes front
   pub longest : StartsNoPiece format quoted rest
 
--- the text is a field and this rest, which may follow it
+-- the text is a field, followed by this rest, which can follow a field
 pub record BeginsWithField (format : RecordFormat) (text : List ℕ) (field : Option (List ℕ))
     (rest : List ℕ) : Type 0 where
   pub front : List ℕ
@@ -37,12 +37,13 @@ abbrev pub BeginsSpecial : RecordFormat → Bool → List ℕ → Type 0
 BeginsSpecial format quoted [] = ⊤
 BeginsSpecial format quoted (b ∷ text) = IsTrue (is_special format quoted b)
 
--- what follows a field: a separator and this rest, or what ends a record and this rest
+-- the end of a field: a separator and this rest, or the end of a record and this rest
 abbrev pub IsFieldEnd : RecordFormat → List ℕ → FieldEnd → Type 0
 IsFieldEnd format text (Separator rest) = text ≡ separator format ∷ rest.now
 IsFieldEnd format text (Record rest) = EndsRecord format text rest.now
 
--- the text begins with no field: what is read of one before a fault, and the text from that on
+-- the text doesn't begin with a field: the part that is read before a fault, and the text from it
+-- on
 pub record IsFaultyField (format : RecordFormat) (text : List ℕ) (kind : FaultKind)
     (back : List ℕ) : Type 0 where
   pub none : (field : Option (List ℕ)) (rest : List ℕ) → BeginsWithField format text field rest → ⊥
@@ -51,7 +52,7 @@ pub record IsFaultyField (format : RecordFormat) (text : List ℕ) (kind : Fault
   pub before : IsFieldBefore format back kind front
   pub stands : IsFaultAt format kind back
 
--- a fault for what the text has; nothing is said of out of memory
+-- a fault of the text; nothing is said about out of memory
 abbrev pub IsFieldRefusal : RecordFormat → List ℕ → FieldError → Type 0
 IsFieldRefusal format text (Fault kind back) = IsFaultyField format text kind back.now
 IsFieldRefusal format text (Memory error) = ⊤

@@ -1,5 +1,5 @@
--- The bytes of the formats of records: RFC 4180, section 2, with LF as a line end too; and MySQL
--- Reference Manual, "SELECT ... INTO Statement", and for escapes "LOAD DATA Statement".
+-- The bytes of the formats of records: RFC 4180, section 2, with LF as another line end; MySQL
+-- Reference Manual, "SELECT ... INTO Statement", and "LOAD DATA Statement" for escapes.
 use Rattle.std.specs.Prelude.{ℕ, Bool, true, false, ◌==◌, List, codes, Option, Some, None, if◌then◌else◌}
 use Rattle.std.specs.List.{list_any}
 use Rattle.std.specs.Str.{byte}
@@ -29,14 +29,14 @@ separator Tsv = byte "\t"
 separator MysqlCsv = byte ","
 separator MysqlTsv = byte "\t"
 
--- fields may stand in quotes
+-- fields can be in quotes
 abbrev pub has_quotes : RecordFormat → Bool
 has_quotes Csv = true
 has_quotes Tsv = false
 has_quotes MysqlCsv = true
 has_quotes MysqlTsv = false
 
--- a backslash escapes the byte behind it, and lines end at a newline only
+-- a backslash escapes the byte after it, and a line ends only at a newline
 abbrev pub has_escapes : RecordFormat → Bool
 has_escapes Csv = false
 has_escapes Tsv = false
@@ -50,7 +50,7 @@ doubles_quotes Tsv quoted = false
 doubles_quotes MysqlCsv quoted = false
 doubles_quotes MysqlTsv quoted = false
 
--- the bytes that don't stand for themselves in a field, in quotes (`true`) or without
+-- the bytes that don't stand for themselves in a field, in quotes (`true`) or without quotes
 abbrev pub special_bytes : RecordFormat → Bool → List ℕ
 special_bytes Csv true = codes "\""
 special_bytes Csv false = codes "\",\r\n"
@@ -59,12 +59,13 @@ special_bytes MysqlCsv true = codes "\"\\"
 special_bytes MysqlCsv false = codes "\"\\,\n"
 special_bytes MysqlTsv quoted = codes "\\\t\n"
 
--- a byte is one of them
+-- a byte is one of these bytes
 abbrev pub is_special : RecordFormat → Bool → ℕ → Bool
 is_special format quoted b = list_any (λ special. b == special) (special_bytes format quoted)
 
--- The byte that a backslash and this byte stand for. Letters stand for control characters; a byte
--- that separates, ends or encloses fields in some form of the statement, or escapes, for itself.
+-- The byte for which a backslash and this byte stand. Letters stand for control characters. A byte
+-- that separates, ends or encloses fields in some form of the statement, or that escapes, stands
+-- for itself.
 abbrev pub escape_value : ℕ → Option ℕ
 escape_value c =
     if c == byte "0" then Some 0 else (

@@ -1,15 +1,15 @@
--- Records of text: CSV as RFC 4180, section 2, has it, with LF as a line end too and any byte in a
--- field; the same with tabs and without quotes; and what `SELECT .. INTO OUTFILE` writes (MySQL
--- Reference Manual, "SELECT ... INTO Statement"), of which `LOAD DATA` reads more. Each definition
--- says which texts are one thing, as a rule of the RFC's ABNF does. A field is its bytes, or none
--- where it is NULL.
+-- Records of text. One format is CSV of RFC 4180, section 2, with LF as another line end and any
+-- byte in a field. One is the same with tabs and without quotes. Two are those that
+-- `SELECT .. INTO OUTFILE` writes (MySQL Reference Manual, "SELECT ... INTO Statement");
+-- `LOAD DATA` reads more than these. Each definition says which texts are one thing, like a rule of
+-- the RFC's ABNF. A field is its bytes, or none if it is NULL.
 use Rattle.std.specs.Prelude.{◌≡◌, ◌≢◌, ℕ, Bool, true, false, IsTrue, IsFalse, List, [], ◌∷◌, ◌++◌, Option, Some, None}
 use Rattle.std.specs.Str.{byte}
 use Rattle.mysql_records.specs.Formats.{backslash, carriage_return, doubles_quotes, escape_value, has_escapes, has_quotes, is_special, newline, quote, separator}
 use Rattle.mysql_records.specs.declared.format.RecordFormat.{RecordFormat}
 
--- One byte of a field, in quotes (`true`) or without, and the text that stands for it: the byte
--- itself, a quote written twice, or an escape.
+-- One byte of a field, in quotes (`true`) or without quotes, and the text that stands for it: the
+-- byte itself, a quote written twice, or an escape.
 pub data IsPiece (format : RecordFormat) (quoted : Bool) : ℕ → List ℕ → Type 0 where
   raw : (b : ℕ) → IsFalse (is_special format quoted b) → IsPiece format quoted b (b ∷ [])
   doubled : IsTrue (doubles_quotes format quoted) → IsPiece format quoted quote (quote ∷ quote ∷ [])
@@ -30,7 +30,7 @@ pub data IsField (format : RecordFormat) : Option (List ℕ) → List ℕ → Ty
       → IsField format (Some bytes) (quote ∷ text ++ quote ∷ [])
   null : IsTrue (has_escapes format) → IsField format None (backslash ∷ byte "N" ∷ [])
 
--- one field or more, with a separator between them
+-- one or more fields, with a separator between them
 pub data IsRecord (format : RecordFormat) : List (Option (List ℕ)) → List ℕ → Type 0 where
   one_field : (field : Option (List ℕ)) (text : List ℕ) → IsField format field text
       → IsRecord format (field ∷ []) text
@@ -44,19 +44,19 @@ pub data IsLineEnd (format : RecordFormat) : List ℕ → Type 0 where
   return_line_feed : IsFalse (has_escapes format)
       → IsLineEnd format (carriage_return ∷ newline ∷ [])
 
--- What follows a record, and the rest of the text behind its end: a line end and the rest, or
--- nothing, as behind the last record of a text.
+-- The end of a record, and the rest of the text after it: a line end and the rest, or nothing, as
+-- after the last record of a text.
 pub data EndsRecord (format : RecordFormat) : List ℕ → List ℕ → Type 0 where
   at_line_end : (line_end rest : List ℕ) → IsLineEnd format line_end
       → EndsRecord format (line_end ++ rest) rest
   at_text_end : EndsRecord format [] []
 
--- a text that may follow a field: a separator and more, or what ends a record
+-- a text that can follow a field: a separator and more, or the end of a record
 pub data EndsField (format : RecordFormat) : List ℕ → Type 0 where
   at_separator : (rest : List ℕ) → EndsField format (separator format ∷ rest)
   at_record_end : (text rest : List ℕ) → EndsRecord format text rest → EndsField format text
 
--- the text is a record of these fields, what ends it, and this rest
+-- the text is a record of these fields, its end, and this rest
 pub record IsRecordThen (format : RecordFormat) (text : List ℕ) (fields : List (Option (List ℕ)))
     (rest : List ℕ) : Type 0 where
   pub front : List ℕ
@@ -65,7 +65,7 @@ pub record IsRecordThen (format : RecordFormat) (text : List ℕ) (fields : List
   pub is_record : IsRecord format fields front
   pub ends : EndsRecord format back rest
 
--- a text that isn't empty begins with a record of these fields, and this rest is behind its end
+-- a text that isn't empty begins with a record of these fields, and this rest is after its end
 pub record BeginsWithRecord (format : RecordFormat) (text : List ℕ)
     (fields : List (Option (List ℕ))) (rest : List ℕ) : Type 0 where
   pub some : text ≢ []

@@ -1,39 +1,40 @@
-//! Why no record is read.
+//! The causes for which no record is read.
 use std::alloc::AllocError;
 
-/// What stands in a text where no record has it.
+/// The kind of a fault: bytes that no record has at their place.
 #[derive(Debug, Clone, Copy, PartialEq, Eq)]
 pub enum FaultKind {
-    /// A carriage return outside of quotes before no newline, in CSV and TSV.
+    /// A carriage return outside of quotes that isn't before a newline, in CSV and TSV.
     StrayReturn,
-    /// A quote within a field without quotes, in a format that has quotes.
+    /// A quote in a field without quotes, in a format that has quotes.
     StrayQuote,
-    /// The quote before a field, and none ends the field.
+    /// The quote before a field that no quote ends.
     OpenQuote,
-    /// What follows the quote that ends a field: neither a separator nor a line end.
+    /// The byte after the quote that ends a field, if it is neither a separator nor a line end.
     BehindQuote,
-    /// A backslash before no byte that makes an escape with it, in a format that has escapes.
+    /// A backslash before a byte with which it makes no escape, or before no byte, in a format that
+    /// has escapes.
     UnknownEscape,
 }
 
-/// Where a text isn't records: at the quote before a field that no quote ends, else at the first
-/// byte that no record has where it stands. What stands before it is the front of a record
-/// ([`faults_are_first`](crate::laws::faults_are_first)), and a text has one fault at most
+/// The place at which a text isn't records. It is the quote before a field that no quote ends, or
+/// else the first byte that no record has at its place. The bytes before it are the front of a
+/// record ([`faults_are_first`](crate::laws::faults_are_first)). A text has at most one fault
 /// ([`faults_are_unambiguous`](crate::laws::faults_are_unambiguous)).
 #[derive(Debug, Clone, Copy, PartialEq, Eq)]
 pub struct Fault {
     /// The index of the byte.
     pub at: usize,
-    /// What stands there.
+    /// The kind of the fault at this byte.
     pub kind: FaultKind,
 }
 
-/// Why no record is read.
+/// The cause for which no record is read.
 #[derive(Debug, PartialEq, Drop)]
 pub enum RecordError {
     /// The text doesn't begin with a record.
     Fault(Fault),
-    /// Out of memory. It may come in place of a fault, and of no empty text.
+    /// Memory was refused. This can also come in place of a fault, but not for an empty text.
     Memory(AllocError),
 }
 

@@ -1,4 +1,4 @@
-//! A field at the front of a text, and what follows it.
+//! A field at the front of a text, and the text after it.
 ghost use Rattle.std.specs.Prelude.{◌≡◌, ◌≢◌, ℕ, IfErr, IfOk, IfNone, IfSome, IsTrue, List, [], ◌∷◌, ◌++◌, true, false};
 ghost use Rattle.std.specs.Str.{byte};
 ghost use Rattle.mysql_records.specs.Formats.{backslash, has_escapes, has_quotes, quote, separator};
@@ -13,10 +13,10 @@ use crate::lent::LentField;
 use crate::pieces::{behind, has_escapes, lent_pieces};
 use std::alloc::{AllocError, Global};
 
-// Why no field is read.
+// The cause for which no field is read.
 #[derive(Drop)]
 pub(crate) enum FieldError<'a> {
-    // The text doesn't begin with a field: what stands there, and the text from that on.
+    // The text doesn't begin with a field: the kind of the fault, and the text from the fault on.
     Fault(FaultKind, &'a [u8]),
     // Out of memory.
     Memory(AllocError),
@@ -33,7 +33,7 @@ impl<'a> From<AllocError> for FieldError<'a> {
     }
 }
 
-// What follows a field, and the text behind that.
+// The end of a field, and the text after it.
 #[derive(Clone, Copy)]
 pub(crate) enum FieldEnd<'a> {
     // A separator.
@@ -42,7 +42,7 @@ pub(crate) enum FieldEnd<'a> {
     Record(&'a [u8]),
 }
 
-// The field at the front of a text, and the text behind it.
+// The field at the front of a text, and the text after it.
 pub(crate) fn first_field<'a>(
     alloc: Global,
     format: RecordFormat,
@@ -61,7 +61,7 @@ pub(crate) fn first_field<'a>(
     bare_field(alloc, format, text)
 }
 
-// The field in quotes at the front of a text, and the text behind it.
+// The field in quotes at the front of a text, and the text after it.
 fn enclosed_field<'a>(
     alloc: Global,
     format: RecordFormat,
@@ -87,7 +87,8 @@ fn enclosed_field<'a>(
     Err(FieldError::Fault(fault_behind_quote(format, rest), rest))
 }
 
-// What a text is that follows the quote at the end of a field, and may not follow a field.
+// The fault of a text that comes after the quote at the end of a field, and can't come after a
+// field.
 fn fault_behind_quote(format: RecordFormat, rest: &[u8]) -> FaultKind
     requires longest { StartsNoPiece format true (quote ∷ rest.now) }
     requires no_end { EndsField format rest.now → ⊥ }
@@ -103,7 +104,7 @@ fn fault_behind_quote(format: RecordFormat, rest: &[u8]) -> FaultKind
     }
 }
 
-// The field without quotes at the front of a text, and the text behind it.
+// The field without quotes at the front of a text, and the text after it.
 fn bare_field<'a>(
     alloc: Global,
     format: RecordFormat,
@@ -123,7 +124,8 @@ fn bare_field<'a>(
     Err(FieldError::Fault(fault_without_quotes(format, back), back))
 }
 
-// What a text is that follows the pieces of a field without quotes, and may not follow a field.
+// The fault of a text that comes after the pieces of a field without quotes, and can't come after a
+// field.
 fn fault_without_quotes(format: RecordFormat, back: &[u8]) -> FaultKind
     requires longest { StartsNoPiece format false back.now }
     requires no_end { EndsField format back.now → ⊥ }
@@ -142,7 +144,7 @@ fn fault_without_quotes(format: RecordFormat, back: &[u8]) -> FaultKind
     }
 }
 
-// The text behind `\N`, if that is the field at the front.
+// The text after `\N`, if that is the field at the front.
 fn behind_null<'a>(format: RecordFormat, text: &'a [u8]) -> Option<&'a [u8]>
     ensures some { IfSome result (λ rest. IsTrue (has_escapes format)
         × (text.now ≡ backslash ∷ byte "N" ∷ rest.now) × EndsField format rest.now) }
@@ -160,7 +162,7 @@ fn behind_null<'a>(format: RecordFormat, text: &'a [u8]) -> Option<&'a [u8]>
     }
 }
 
-// The text behind the quote at the front of a text, if it opens a field.
+// The text after the quote at the front of a text, if the quote opens a field.
 fn behind_quote<'a>(format: RecordFormat, text: &'a [u8]) -> Option<&'a [u8]>
     ensures some { IfSome result (λ tail. IsTrue (has_quotes format)
         × (text.now ≡ quote ∷ tail.now)) }
@@ -173,7 +175,7 @@ fn behind_quote<'a>(format: RecordFormat, text: &'a [u8]) -> Option<&'a [u8]>
     }
 }
 
-// What follows a field, if a text may follow one.
+// The end of a field, if the text can come after one.
 pub(crate) fn field_end<'a>(format: RecordFormat, text: &'a [u8]) -> Option<FieldEnd<'a>>
     ensures some { IfSome result (IsFieldEnd format text.now) }
     ensures none { IfNone result (EndsField format text.now → ⊥) }

@@ -1,5 +1,5 @@
-//! Laws of the definitions that the contracts cite. They do nothing: each is called for what it
-//! ensures.
+//! Laws about the definitions that the contracts cite. They do nothing: each is called for its
+//! `ensures`.
 ghost use Rattle.std.specs.Prelude.{◌≡◌, ◌==◌, ℕ, Bool, false, IsTrue, IsFalse, List, ◌++◌, Option, Some, take};
 ghost use Rattle.std.specs.List.{list_any};
 ghost use Rattle.mysql_records.specs.Faults.{IsFaulty, IsFaultyTable};
@@ -10,7 +10,7 @@ ghost use Rattle.mysql_records.specs.Writers.{client_writer, unwritable_bytes, u
 ghost use Rattle.mysql_records.specs.declared.fault.Fault.{Fault};
 ghost use Rattle.mysql_records.specs.declared.format.RecordFormat.{RecordFormat};
 
-/// A text is one table at most.
+/// A text is at most one table.
 pub fn tables_are_unambiguous()
     ensures records { (format : RecordFormat) (text : List ℕ)
         (fields others : List (Option (List ℕ))) (rest more : List ℕ) →
@@ -21,7 +21,7 @@ pub fn tables_are_unambiguous()
         rows ≡ others }
 {}
 
-/// A text has one fault at most: no other byte is told of, and no other kind of fault.
+/// A text has at most one fault: no other byte and no other kind is reported.
 pub fn faults_are_unambiguous()
     ensures records { (format : RecordFormat) (text : List ℕ) (fault other : Fault) →
         IsFaulty format text fault → IsFaulty format text other → fault ≡ other }
@@ -29,8 +29,8 @@ pub fn faults_are_unambiguous()
         IsFaultyTable format text fault → IsFaultyTable format text other → fault ≡ other }
 {}
 
-/// A fault is the first: what stands before it is the front of a record, and in a table the front
-/// of a table. With other bytes from the fault on, the text is one.
+/// A fault is the first one: the bytes before it are the front of a record, and in a table the
+/// front of a table. With other bytes from the fault on, the text is a record or a table.
 pub fn faults_are_first()
     ensures records { (format : RecordFormat) (text : List ℕ) (fault : Fault) →
         IsFaulty format text fault → (more : List ℕ) × (fields : List (Option (List ℕ)))
@@ -40,9 +40,9 @@ pub fn faults_are_first()
         × IsTable format rows (take fault.at text ++ more) }
 {}
 
-/// What a writer makes of a table reads as that table, and as no other: whichever fields it writes
-/// in quotes, whatever it escapes, and whether it ends the last record or not. So no byte of a
-/// field that is written so begins a field or a record.
+/// The text that a writer makes of a table is read as that table, and as no other. This holds for
+/// any choice of fields in quotes and of escapes, and with or without a line end after the last
+/// record. So no byte of a field that is written like this begins a field or a record.
 pub fn written_tables_are_read()
     ensures table { (writer : Writer) (rows : List (List Cell)) →
         IsWriter writer → IsWritableTable writer rows →
@@ -53,11 +53,14 @@ pub fn written_tables_are_read()
         IsTable writer.format others (written_table writer rows) → others ≡ fields_of rows }
 {}
 
-/// Writers of CSV and TSV, servers with `[OPTIONALLY] ENCLOSED BY` or with tabs, and clients by
-/// `mysql --batch` are writers as [`written_tables_are_read`] has them. They can write each field
-/// without these bytes: in TSV a tab, CR and LF; without quotes in CSV a quote, a comma, CR and LF,
-/// and in a server's file with commas a quote. MariaDB writes a column of the type `BIT` as it is,
-/// and so not as such a writer.
+/// Writers of CSV and TSV, servers with `[OPTIONALLY] ENCLOSED BY` or with tabs, and clients with
+/// `mysql --batch` are writers in the sense of [`written_tables_are_read`]. They can write each
+/// field that has none of these bytes:
+/// - in TSV a tab, CR and LF;
+/// - in CSV without quotes a quote, a comma, CR and LF;
+/// - in a server's file with commas, in a field without quotes, a quote.
+///
+/// MariaDB isn't such a writer for a column of the type `BIT`, which it writes as it is.
 pub fn usual_writers_are_writers()
     ensures writers { (format : RecordFormat) (line_end : List ℕ) (ends_last : Bool) →
         IsLineEnd format line_end → IsWriter (usual_writer format line_end ends_last) }

@@ -1,23 +1,23 @@
-//! Fields where they lie in a text.
+//! Fields that borrow their bytes from a text.
 ghost use Rattle.std.specs.Prelude.{◌≡◌, IfOk, option_map};
 ghost use Rattle.mysql_records.specs.Seen.{field_seen, lent_seen};
 
 use crate::record::Field;
 use std::alloc::{AllocError, Global};
 
-/// A field of a record, whose bytes are copied only if the text doesn't have them in a row.
+/// A field of a record. Its bytes are copied only if the text doesn't have them one after another.
 #[derive(Debug, Drop)]
 pub enum LentField<'a> {
     /// `\N` without quotes, in the MySQL formats.
     Null,
-    /// Its bytes, where they stand in the text.
+    /// Its bytes, borrowed from the text.
     Lent(&'a [u8]),
-    /// Its bytes, of which the text has one at least with a quote or a backslash before it.
+    /// Its bytes, copied, since the text has a quote or a backslash before at least one of them.
     Made(Vec<u8>),
 }
 
 impl<'a> LentField<'a> {
-    /// The bytes, or none where it is NULL.
+    /// The bytes of the field, or `None` if it is NULL.
     pub fn bytes(&self) -> Option<&[u8]>
         ensures { option_map (λ bytes. bytes.now) result ≡ lent_seen self.now }
     {
@@ -28,7 +28,7 @@ impl<'a> LentField<'a> {
         }
     }
 
-    /// The same field with its bytes as a vector, which are copied if they were lent.
+    /// The same field with its bytes as a vector. Borrowed bytes are copied.
     pub fn into_field(self, alloc: Global) -> Result<Field, AllocError>
         ensures { IfOk result (λ field. field_seen field ≡ lent_seen self.entry) }
     {

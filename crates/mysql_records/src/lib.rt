@@ -1,4 +1,4 @@
-//! Records of text: CSV, TSV, and what MySQL servers and clients write.
+//! Records of text: CSV, TSV, and the formats that MySQL servers and clients write.
 #![tactic(auto)]
 
 mod fault;

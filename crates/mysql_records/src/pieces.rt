@@ -1,4 +1,4 @@
-//! The bytes of a field as they stand in a text.
+//! The bytes of a field, as a text has them.
 ghost use Rattle.std.specs.Prelude.{◌≡◌, ◌≢◌, ℕ, ◌<◌, ◌≤◌, IfOk, IfSome, IfNone, IsFalse, IsTrue, ◌∷◌, ◌++◌, List, Some, length, slice_index, take};
 ghost use Rattle.std.specs.List.{list_any};
 ghost use Rattle.mysql_records.specs.Formats.{doubles_quotes, escape_value, has_escapes, is_special};
@@ -10,8 +10,8 @@ use crate::format::RecordFormat;
 use crate::lent::LentField;
 use std::alloc::{AllocError, Global};
 
-// The longest row of pieces at the front of a text as a field, and the text behind it. If each byte
-// stands for itself, they are lent.
+// The longest row of pieces at the front of a text as a field, and the text after it. If each byte
+// stands for itself, they are borrowed.
 pub(crate) fn lent_pieces<'a>(
     alloc: Global,
     format: RecordFormat,
@@ -30,7 +30,7 @@ pub(crate) fn lent_pieces<'a>(
     Ok((LentField::Made(bytes), back))
 }
 
-// The bytes of the longest row of pieces at the front of a text, and the text behind it.
+// The bytes of the longest row of pieces at the front of a text, and the text after it.
 fn pieces<'a>(
     alloc: Global,
     format: RecordFormat,
@@ -58,7 +58,7 @@ fn pieces<'a>(
     }
 }
 
-// How many bytes at the front of a text stand for themselves.
+// The number of bytes at the front of a text that stand for themselves.
 fn raw_len(format: RecordFormat, quoted: bool, text: &[u8]) -> usize
     ensures within { result ≤ length text.now }
     ensures raw { IsFalse (list_any (is_special format quoted) (take result text.now)) }
@@ -73,7 +73,7 @@ fn raw_len(format: RecordFormat, quoted: bool, text: &[u8]) -> usize
     text.len()
 }
 
-// The byte that two bytes at the front of a text stand for, and the text behind them.
+// The byte for which two bytes at the front of a text stand, and the text after them.
 fn pair<'a>(format: RecordFormat, quoted: bool, text: &'a [u8]) -> Option<(u8, &'a [u8])>
     requires { BeginsSpecial format quoted text.now }
     ensures some { IfSome result (λ read. (piece : List ℕ) × IsPiece format quoted read.0 piece
@@ -92,7 +92,7 @@ fn pair<'a>(format: RecordFormat, quoted: bool, text: &'a [u8]) -> Option<(u8, &
     None
 }
 
-// The text behind a byte, if a text begins with it.
+// The text after a byte, if the text begins with this byte.
 pub(crate) fn behind(text: &[u8], byte: u8) -> Option<&[u8]>
     ensures some { IfSome result (λ rest. text.now ≡ byte ∷ rest.now) }
     ensures none { IfNone result ((rest : List ℕ) → text.now ≢ byte ∷ rest) }
@@ -115,7 +115,7 @@ fn is_special(format: RecordFormat, quoted: bool, byte: u8) -> bool
     }
 }
 
-// Whether two quotes stand for one in a field.
+// Whether two quotes stand for one quote in a field.
 fn doubles_quotes(format: RecordFormat, quoted: bool) -> bool
     ensures { result ≡ doubles_quotes format quoted }
 {
@@ -125,7 +125,7 @@ fn doubles_quotes(format: RecordFormat, quoted: bool) -> bool
     }
 }
 
-// Whether a backslash escapes the byte behind it.
+// Whether a backslash escapes the byte after it.
 pub(crate) fn has_escapes(format: RecordFormat) -> bool
     ensures { result ≡ has_escapes format }
 {
@@ -135,7 +135,7 @@ pub(crate) fn has_escapes(format: RecordFormat) -> bool
     }
 }
 
-// The byte that a backslash and this byte stand for.
+// The byte for which a backslash and this byte stand.
 fn escape_value(byte: u8) -> Option<u8>
     ensures { result ≡ escape_value byte }
 {

@@ -19,17 +19,17 @@ pub enum Field {
     Bytes(Vec<u8>),
 }
 
-/// A record, and the text behind it.
+/// A record, and the text after it.
 #[derive(Debug, Drop)]
 pub struct Record<'a> {
-    /// Its fields, one at least.
+    /// Its fields, at least one.
     pub fields: Vec<Field>,
-    /// The text behind its line end, in which the next record stands.
+    /// The text after its line end, which begins with the next record.
     pub rest: &'a [u8],
 }
 
-/// The record at the front of a text; none exactly if the text is empty. All records are those of
-/// the text, of its `rest`, and so on. Takes time linear in the length of the record.
+/// Returns the record at the front of a text, or `None` exactly if the text is empty. To read all
+/// records, go on with the `rest` of each. The time is linear in the length of the record.
 pub fn first_record<'a>(
     alloc: Global,
     format: RecordFormat,
@@ -66,10 +66,10 @@ fn owned_fields(alloc: Global, lent: Vec<LentField<'_>>) -> Result<Vec<Field>, A
     Ok(fields)
 }
 
-/// The fields of the record at the front of a text, in place of those that the vector has, and the
-/// text behind its line end; none exactly if the text is empty. It is what [`first_record`] gives,
-/// without a copy of the bytes that stand in the text as they are. So one vector serves for all
-/// records of a text.
+/// Reads the record at the front of a text into the vector, in place of the fields that it has.
+/// Returns the text after the record's line end, or `None` exactly if the text is empty. The record
+/// is the same as for [`first_record`], but bytes that the text has as they are aren't copied. So
+/// one vector is enough for all records of a text.
 pub fn first_record_into<'a>(
     alloc: Global,
     format: RecordFormat,

@@ -12,13 +12,13 @@ use std::alloc::{AllocError, Global};
 /// The fields of one record.
 #[derive(Debug, PartialEq, Drop)]
 pub struct Row {
-    /// The fields, one at least.
+    /// The fields, at least one.
     pub fields: Vec<Field>,
 }
 
-/// All records of a text, in order: what [`first_record`](crate::first_record) gives of the text,
-/// of its rest, and so on to the end. The fault of the first of these that has one, at its index in
-/// the text.
+/// Returns all records of a text, in order: those of [`first_record`](crate::first_record) for the
+/// text, for its rest, and so on to the end. The error is the fault of the first record that has
+/// one, at its index in the text.
 pub fn all_rows(alloc: Global, format: RecordFormat, text: &[u8]) -> Result<Vec<Row>, RecordError>
     ensures table { IfOk result (λ rows. IsTable format (rows_seen rows.items) text.now) }
     ensures refused { IfErr result (IsTableRefusal format text.now) }
