@@ -16,16 +16,14 @@ contents_before reader (piece ∷ pieces) text =
     (option_and_then (contents_before reader pieces) (after piece read.1)))
     (reader text)
 
--- The contents of the literals between these pieces of a query, which has at least one piece.
--- `None` if the text isn't the first piece, a literal, the second piece, and so on to the last
--- piece.
+-- The contents of the literals between these pieces of a query, which has at least one. `None` if
+-- the text isn't the first piece, a literal, the second piece, and so on to the last.
 abbrev pub contents_between : LiteralReader → List (List ℕ) → List ℕ → Option (List Content)
 contents_between reader [] text = None
 contents_between reader (piece ∷ pieces) text =
     option_and_then (contents_before reader pieces) (after piece text)
 
--- each literal, followed by the text after it, is read as its content, and exactly that text is
--- left
+-- each literal, followed by the text after it, is read as its content, and leaves exactly that text
 abbrev pub AreReadInPlace : LiteralReader → List (List ℕ) → List (List ℕ) → List Content → Type 0
 AreReadInPlace reader pieces [] [] = ⊤
 AreReadInPlace reader (piece ∷ pieces) (literal ∷ literals) (content ∷ contents) =

@@ -40,9 +40,8 @@ abbrev pub stands_alone : List ℕ → List ℕ → Bool
 stands_alone before after =
     none_or_last may_stand_before before && none_or_first may_stand_after after
 
--- Number and position of the first place that doesn't stand alone. `place` places and the text
--- `before` come before the tokens. `IsFirstNotAlone` says the same
--- (`laws::first_not_alone_is_first`).
+-- Number and position of the first place that doesn't stand alone, after `place` places and the
+-- text `before`. `IsFirstNotAlone` says the same (`laws::first_not_alone_is_first`).
 abbrev pub first_not_alone_from : ℕ → List ℕ → List Token → Option (ℕ × ℕ)
 first_not_alone_from place before [] = None
 first_not_alone_from place before (Name name ∷ ts) =

@@ -56,8 +56,7 @@ names_at [] bytes = []
 names_at (span ∷ spans) bytes =
     drop 1 (take span.len (drop span.before bytes)) ∷ names_at spans (after_span span bytes)
 
--- these bytes with the literals in the places; the text ends at a place for which no literal is
--- left
+-- these bytes with the literals in the places; they end at a place for which no literal is left
 abbrev pub text_at : List PlaceSpan → List ℕ → List (List ℕ) → List ℕ
 text_at [] bytes literals = bytes
 text_at (span ∷ spans) bytes [] = []

@@ -3,8 +3,7 @@ use Rattle.std.specs.Prelude.{ℕ, Bool, List, [], ◌∷◌, ⊤}
 use Rattle.mysql_named_params.specs.Tokens.{Token}
 use Rattle.mysql_portable.specs.ServerTokens.{Server, IsReadOn}
 
--- there are as many lists as texts, and each is the tokens of its text on the server, read by
--- itself
+-- as many lists as texts, and each is the tokens of its text on the server, read by itself
 abbrev pub AreReadOn : Server → Bool → List (List ℕ) → List (List Token) → Type 0
 AreReadOn server mode [] [] = ⊤
 AreReadOn server mode [] (list ∷ lists) = ⊥

@@ -11,7 +11,7 @@ with_literal_tokens (Name name ∷ ts) (list ∷ lists) = list ++ with_literal_t
 with_literal_tokens (Mark ∷ ts) (list ∷ lists) = list ++ with_literal_tokens ts lists
 with_literal_tokens (t ∷ ts) lists = t ∷ with_literal_tokens ts lists
 
--- there are as many lists as texts, and each is the tokens of its text, read by itself
+-- as many lists as texts, and each is the tokens of its text, read by itself
 abbrev pub AreTokensOf : Bool → List (List ℕ) → List (List Token) → Type 0
 AreTokensOf mode [] [] = ⊤
 AreTokensOf mode [] (list ∷ lists) = ⊥

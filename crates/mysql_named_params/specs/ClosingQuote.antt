@@ -3,8 +3,7 @@
 use Rattle.std.specs.Prelude.{◌≡◌, ◌≢◌, ◌+◌, ◌<◌, ◌≤◌, ℕ, zero, suc, Bool, true, false, not, ◌&&◌, List, length, slice_index, Option, Some, None}
 use Rattle.mysql_sql_text.specs.StringUnits.{is_escape}
 
--- whether the byte at this index is escaped: the byte before it is an escape that isn't escaped
--- itself
+-- whether the byte at this index is escaped, by an escape before it that isn't escaped itself
 abbrev pub is_escaped : Bool → List ℕ → ℕ → Bool
 is_escaped mode text zero = false
 is_escaped mode text (suc at) =
@@ -21,8 +20,7 @@ pub record ClosesFirst (mode : Bool) (quote : ℕ) (text : List ℕ) (from at : 
   pub is_quote : slice_index text at ≡ quote
   pub closes : is_escaped mode text at ≡ false
 
--- the index of the first quote that closes, among `lanes` bytes from the index `from` on; or none
--- closes
+-- the index of the first quote that closes, among `lanes` bytes from the index `from` on
 abbrev pub IsFirstClosing : Bool → ℕ → List ℕ → ℕ → ℕ → Option ℕ → Type 0
 IsFirstClosing mode quote text from lanes None = NoneCloses mode quote text from (from + lanes)
 IsFirstClosing mode quote text from lanes (Some at) =

@@ -1,6 +1,5 @@
 -- A query with its names in lower case. Wide names become names of the grammar, at the same
--- positions. This is for questions about a query before it is bound, such as whether it is
--- portable.
+-- positions. This is for tests of a query before it is bound, such as whether it is portable.
 use Rattle.std.specs.Prelude.{ℕ, Bool, List, [], ◌∷◌, map}
 use Rattle.std.specs.Char.{to_ascii_lowercase}
 use Rattle.std.specs.List.{list_any}

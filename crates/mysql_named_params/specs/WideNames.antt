@@ -56,8 +56,7 @@ widened_from inside (t ∷ ts) = t ∷ widened_from false ts
 abbrev pub widened : List Token → List Token
 widened = widened_from false
 
--- no byte that continues a wide name follows a name, and no byte that begins one follows a plain
--- `:`
+-- no byte that continues a wide name follows a name, and none that begins one follows a plain `:`
 abbrev pub HasNoCapitals : List Token → Type 0
 HasNoCapitals [] = ⊤
 HasNoCapitals (Name name ∷ ts) = IsFalse (continues_wide ts) × HasNoCapitals ts

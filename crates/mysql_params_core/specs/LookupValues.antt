@@ -1,5 +1,4 @@
--- The values that parameters give to the names of a query, and the name that is reported as
--- missing.
+-- The values that parameters give to the names of a query, and the name that is reported missing.
 use Rattle.std.specs.Prelude.{ℕ, ◌-◌, Bool, true, not, List, [], ◌∷◌, length, find, unwrap_or, slice_index_or, if◌then◌else◌, Option, Some, Result, Ok, Err, ok_or}
 use Rattle.std.specs.List.{list_any}
 use Rattle.std.specs.FinMap.{contains_key, get}
@@ -9,8 +8,7 @@ use Rattle.mysql_value_core.specs.declared.value.Value.{Value}
 use Rattle.mysql_params_core.specs.declared.params.errors.ParamsConfusionError.{ParamsConfusionError}
 use Rattle.mysql_params_core.specs.declared.params.errors.ParamsConfusionError.TheVariants.{NamedParamsForPositionalQuery, PositionalParamsForNamedQuery}
 
--- whether the elements that pass the test are exactly a prefix of the list, which may be empty or
--- whole
+-- whether the elements that pass the test are exactly a prefix of the list, possibly none or all
 abbrev pub is_prefix : {X : Type 0} → (X → Bool) → List X → Bool
 is_prefix test [] = true
 is_prefix test (x ∷ xs) = if test x then is_prefix test xs else not (list_any test xs)

@@ -1,10 +1,9 @@
--- Clear texts. A byte is *in doubt* if it isn't steady, or if it may begin or end a construct at
--- its place. A text is *clear* if none of its bytes is in doubt. The test looks at a byte and the
--- bytes beside it, and not at tokens. A clear query is steady and portable, and most queries that
--- are both are clear. Some aren't, such as a query with `[` in a string, or with `a-?`. A query
--- that is clear in a client is also portable there. A query that begins with a comment isn't clear
--- in a client. Wide names count as places, so a clear query stays clear with these names in lower
--- case.
+-- Clear texts. A byte is *in doubt* if it isn't steady, or may begin or end a construct at its
+-- place. A text is *clear* if none of its bytes is in doubt. The test looks at a byte and the bytes
+-- beside it, and not at tokens. A clear query is steady and portable, and most queries that are
+-- both are clear. Some aren't, such as a query with `[` in a string, or with `a-?`. A query that is
+-- clear in a client is also portable there; one that begins with a comment isn't clear in a client.
+-- Wide names count as places, so a clear query stays clear with these names in lower case.
 use Rattle.std.specs.Prelude.{◌≡◌, ◌-◌, ◌<◌, ◌≤◌, ◌==◌, ◌&&◌, ◌||◌, not, nat_le, codes, ℕ, Bool, true, false, List, [], ◌∷◌, if◌then◌else◌, drop, slice_index}
 use Rattle.std.specs.Char.{is_ascii_digit}
 use Rattle.std.specs.Str.{byte}
@@ -98,8 +97,7 @@ is_clear_after client before (b ∷ bs) =
 abbrev pub is_clear : List ℕ → Bool
 is_clear = is_clear_after false space
 
--- no byte of the text is in doubt in a client either, and the text doesn't begin like a client's
--- line
+-- no byte of the text is in doubt in a client either, and its front isn't a line of the client
 abbrev pub is_clear_in_client : List ℕ → Bool
 is_clear_in_client text = not (begins_client_line text) && is_clear_after true space text
 

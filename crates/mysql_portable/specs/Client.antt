@@ -56,8 +56,7 @@ abbrev pub IsNotPlainBy : Client → Bool → Token → List ℕ → Type 0
 IsNotPlainBy client mode (BlockComment tail) rest = IsBlockTailBy client tail rest
 IsNotPlainBy client mode t rest = IsNotPlainOn client.reader mode t rest
 
--- a token by the client before a rest; a byte is a plain token if no other token begins with it
--- there
+-- a token by the client before a rest; a byte is plain if no other token begins with it there
 abbrev pub IsTokenBy : Client → Bool → Token → List ℕ → Type 0
 IsTokenBy client mode (Plain b) rest =
     (t : Token) (after : List ℕ) → IsNotPlainBy client mode t after →

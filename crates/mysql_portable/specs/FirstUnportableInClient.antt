@@ -33,8 +33,7 @@ first_in_client_from at statement line (t ∷ ts) =
 abbrev pub first_unportable_in_client : List Token → Option Unportable
 first_unportable_in_client = first_in_client_from 0 true true
 
--- nothing is found in the tokens for the client; the flags say whether a statement or a line may
--- begin
+-- nothing is found in the tokens for the client, if a statement or a line may begin there
 abbrev pub AreSentAsTheyAreFrom : Bool → Bool → List Token → Type 0
 AreSentAsTheyAreFrom statement line [] = ⊤
 AreSentAsTheyAreFrom statement line (t ∷ ts) =

@@ -73,8 +73,7 @@ begins_word [] text = true
 begins_word (w ∷ ws) [] = false
 begins_word (w ∷ ws) (b ∷ bs) = letter_of b == w && begins_word ws bs
 
--- the text is empty or begins with a byte that is no part of a word: white space, a control byte or
--- `;`
+-- the text is empty or begins with a byte that ends a word: white space, a control byte or `;`
 abbrev pub ends_word : List ℕ → Bool
 ends_word [] = true
 ends_word (b ∷ bs) = nat_le b space || b == byte ";"

@@ -56,8 +56,7 @@ may_begin_something b rest =
     || ((closes b rest && not (stands_apart (drop 1 rest)))
     || (b == exclamation_mark && not (is_version rest))))))))))
 
--- the text begins with that of a quiet comment: no byte up to its `*/`, with it, may begin
--- something
+-- the text of a quiet comment, and more: no byte up to its `*/`, with it, may begin something
 abbrev pub is_quiet : List ℕ → Bool
 is_quiet [] = false
 is_quiet (b ∷ rest) = not (may_begin_something b rest) && (closes b rest || is_quiet rest)

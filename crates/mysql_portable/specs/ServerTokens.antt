@@ -157,8 +157,7 @@ pub data IsBlockTail (server : Server) (tail rest : List ℕ) : Type 0 where
   own_block : (n : ℕ) → block_on server (tail ++ rest) ≡ comment_of n →
       take n (tail ++ rest) ≡ tail → IsBlockTail server tail rest
 
--- the bytes after the sign that opens a token, before a rest; `own` is the server's own number of
--- them
+-- the bytes after the sign that opens a token, before a rest, by the server's own number of them
 pub data IsTailBy (own : Option ℕ) (end : ℕ) (tail rest : List ℕ) : Type 0 where
   -- up to the grammar's end
   usual_end : own ≡ None → IsUpTo (end ∷ []) tail rest → IsTailBy own end tail rest
@@ -199,8 +198,7 @@ IsNotPlainOn server mode (Name name) rest = IsName name × IsFalse (begins is_na
 IsNotPlainOn server mode Mark rest = ⊤
 IsNotPlainOn server mode (Plain b) rest = ⊥
 
--- a token on the server before a rest; a byte is a plain token if no other token begins with it
--- there
+-- a token on the server before a rest; a byte is plain if no other token begins with it there
 abbrev pub IsTokenOn : Server → Bool → Token → List ℕ → Type 0
 IsTokenOn server mode (Plain b) rest =
     (t : Token) (after : List ℕ) → IsNotPlainOn server mode t after →

@@ -39,9 +39,8 @@ abbrev pub BeginsWithNoNull : RecordFormat → List ℕ → Type 0
 BeginsWithNoNull format text =
     (rest : List ℕ) → EndsField format rest → text ≢ backslash ∷ byte "N" ∷ rest
 
--- The part of a field that is read before a fault of this kind, in a format that has the kind:
--- pieces without quotes, a quote and pieces, or a field in quotes. The text from the fault on is
--- `back`.
+-- The part of a field before a fault of this kind, in a format that has the kind: pieces without
+-- quotes, a quote and pieces, or a field in quotes. The text from the fault on is `back`.
 pub data IsFieldBefore (format : RecordFormat) (back : List ℕ) : FaultKind → List ℕ → Type 0 where
   return_bare : (bytes text : List ℕ) → IsFalse (has_escapes format)
       → IsPieces format false bytes text → IsFieldBefore format back StrayReturn text
@@ -61,8 +60,7 @@ pub data IsFieldBefore (format : RecordFormat) (back : List ℕ) : FaultKind →
       → IsTrue (has_quotes format) → IsPieces format true bytes text
       → IsFieldBefore format back UnknownEscape (quote ∷ text)
 
--- the part of a record that is read: whole fields, each with a separator, and the front of the next
--- one
+-- the part of a record before a fault: whole fields, each with a separator, and the front of one
 pub data IsRecordBefore (format : RecordFormat) (back : List ℕ) (kind : FaultKind)
     : List ℕ → Type 0 where
   in_field : (text : List ℕ) → IsFieldBefore format back kind text
@@ -71,8 +69,7 @@ pub data IsRecordBefore (format : RecordFormat) (back : List ℕ) (kind : FaultK
       → IsRecordBefore format back kind rest
       → IsRecordBefore format back kind (text ++ separator format ∷ rest)
 
--- the part of a table that is read: whole records, each with a line end, and the front of the next
--- one
+-- the part of a table before a fault: whole records, each with a line end, and the front of one
 pub data IsTableBefore (format : RecordFormat) (back : List ℕ) (kind : FaultKind)
     : List ℕ → Type 0 where
   in_record : (text : List ℕ) → IsRecordBefore format back kind text

@@ -42,8 +42,7 @@ abbrev pub IsFieldEnd : RecordFormat → List ℕ → FieldEnd → Type 0
 IsFieldEnd format text (Separator rest) = text ≡ separator format ∷ rest.now
 IsFieldEnd format text (Record rest) = EndsRecord format text rest.now
 
--- the text doesn't begin with a field: the part that is read before a fault, and the text from it
--- on
+-- the text doesn't begin with a field: the part before a fault, and the text from the fault on
 pub record IsFaultyField (format : RecordFormat) (text : List ℕ) (kind : FaultKind)
     (back : List ℕ) : Type 0 where
   pub none : (field : Option (List ℕ)) (rest : List ℕ) → BeginsWithField format text field rest → ⊥

@@ -63,9 +63,9 @@ special_bytes MysqlTsv quoted = codes "\\\t\n"
 abbrev pub is_special : RecordFormat → Bool → ℕ → Bool
 is_special format quoted b = list_any (λ special. b == special) (special_bytes format quoted)
 
--- The byte for which a backslash and this byte stand. Letters stand for control characters. A byte
--- that separates, ends or encloses fields in some form of the statement, or that escapes, stands
--- for itself.
+-- The byte for which a backslash and this byte stand. Letters stand for control characters. Bytes
+-- that separate, end or enclose fields in some form of the statement, or escape, stand for
+-- themselves.
 abbrev pub escape_value : ℕ → Option ℕ
 escape_value c =
     if c == byte "0" then Some 0 else (

@@ -1,7 +1,6 @@
 -- Writers that are in use, and the bytes that each can write: of CSV and TSV; servers, by
--- `SELECT .. INTO OUTFILE` with escapes; and clients, by `mysql --batch` (sources: see
--- WrittenRecords). A column of the type BIT in MariaDB is an exception: MariaDB writes its bytes as
--- they are.
+-- `SELECT .. INTO OUTFILE` with escapes, except for MariaDB's columns of the type BIT, whose bytes
+-- it writes as they are; and clients, by `mysql --batch` (sources: see WrittenRecords).
 use Rattle.std.specs.Prelude.{ℕ, Bool, true, false, ◌==◌, List, [], ◌∷◌, codes, Option, Some, None, if◌then◌else◌}
 use Rattle.std.specs.List.{list_any}
 use Rattle.std.specs.Str.{byte}
@@ -16,8 +15,8 @@ escape_among bytes b =
     if b == 0 then Some (byte "0") else (
     if list_any (λ special. b == special) bytes then Some b else None)
 
--- The escapes of a server. It also escapes a quote in quotes, and a separator without quotes. CSV
--- and TSV have no escapes.
+-- The escapes of a server, also of quotes in quotes and of separators without. CSV and TSV have
+-- none.
 abbrev pub usual_escape : RecordFormat → Bool → ℕ → Option ℕ
 usual_escape Csv quoted = λ b. None
 usual_escape Tsv quoted = λ b. None

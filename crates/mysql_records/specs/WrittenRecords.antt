@@ -9,8 +9,7 @@ use Rattle.mysql_records.specs.Records.{IsLineEnd}
 use Rattle.mysql_records.specs.declared.format.RecordFormat.{RecordFormat}
 
 -- The choices of a writer: its format, its line end, whether the last record also has a line end,
--- and the byte that it writes after a backslash in place of a byte, in quotes (`true`) or without
--- quotes.
+-- and the byte that it writes after a backslash in place of a byte, in quotes (`true`) or without.
 pub record Writer : Type 0 where
   pub format : RecordFormat
   pub line_end : List ℕ

@@ -11,9 +11,9 @@ abbrev pub control_z : ℕ
 control_z = 26
 
 -- The bytes that stand for a byte between single quotes. With backslash escapes, a zero byte, a
--- newline, a carriage return and Ctrl-Z become a backslash and a letter or digit. A backslash and
--- both quotes get a backslash before them. Without backslash escapes, a single quote is doubled.
--- Every other byte stays.
+-- newline, a carriage return and Ctrl-Z become a backslash and a letter or digit; a backslash and
+-- both quotes get a backslash before them. Without, a single quote is doubled. Every other byte
+-- stays.
 abbrev pub escaped_byte : Bool → ℕ → List ℕ
 escaped_byte false b =
     if b == 0 then codes "\\0" else (

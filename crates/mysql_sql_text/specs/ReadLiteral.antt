@@ -1,11 +1,11 @@
--- The reading of a literal: of the forms that are written, and of some similar ones. These are
--- zeros in front (`007`), hexadecimal digits in either case (`0xaB`), and escapes that are never
--- written (`'\q'`) (MySQL Reference Manual, "NULL Values", "Hexadecimal Literals", "Numeric
--- Literals", "String Literals" and its table "Special Character Escape Sequences"). This isn't the
--- manual's whole grammar: it reads only the `5` of `5.5`, it doesn't read `null`, `x'41'` and
--- `".."`, and it reads hexadecimal digits only in pairs. It shares nothing with the definition of
--- written literals, and no code uses it. A mode is the flag `no_backslash_escape`: `true` is the
--- mode without backslash escapes.
+-- The reading of a literal. It reads the forms that are written, and some similar ones: zeros in
+-- front (`007`), hexadecimal digits in either case (`0xaB`), and escapes that are never written
+-- (`'\q'`) (MySQL Reference Manual, "NULL Values", "Hexadecimal Literals", "Numeric Literals",
+-- "String Literals" and its table "Special Character Escape Sequences"). This isn't the manual's
+-- whole grammar: only the `5` of `5.5` is read, `null`, `x'41'` and `".."` aren't read, and
+-- hexadecimal digits are read only in pairs. It shares nothing with the definition of written
+-- literals, and no code uses it. A mode is the flag `no_backslash_escape`: `true` is the mode
+-- without backslash escapes.
 use Rattle.std.specs.Prelude.{ℕ, ◌+◌, ◌-◌, ◌*◌, nat_le, Bool, true, false, ◌==◌, ◌&&◌, ◌||◌, List, [], ◌∷◌, ◌++◌, codes, Option, Some, None, option_map, option_and_then, ℤ, pos, neg_ℤ, if◌then◌else◌}
 use Rattle.std.specs.Char.{is_ascii_digit}
 use Rattle.std.specs.Option.{option_or}
@@ -76,9 +76,8 @@ unescaped b =
     if b == byte "Z" then 26 ∷ [] else (
     if b == byte "%" || b == byte "_" then byte "\\" ∷ b ∷ [] else b ∷ []))))))
 
--- Whether a byte begins a pair that stands for other bytes. It is the same test as `is_escape` of
--- StringUnits. It has a definition of its own, since the reader shares nothing with written
--- literals.
+-- Whether a byte begins a pair that stands for other bytes. `is_escape` of StringUnits is the same
+-- test; this one is separate, since the reader shares nothing with written literals.
 abbrev pub begins_pair : Bool → ℕ → Bool
 begins_pair false b = b == byte "\\"
 begins_pair true b = false
@@ -88,9 +87,8 @@ abbrev pub prefix_read : List ℕ → Option (List ℕ × List ℕ) → Option (
 prefix_read bytes read = option_map (λ r. (bytes ++ r.0, r.1)) read
 
 -- The bytes of the units after an opening quote, up to a quote that no quote follows, and the text
--- after this quote. `None` if no quote ends them. Two quotes one after another are one, and a
--- single quote ends the units. A pair stands for its unescaped bytes, and every other byte for
--- itself.
+-- after it; `None` if no quote ends them. Two quotes in a row are one, and a single quote ends the
+-- units. A pair stands for its unescaped bytes, and every other byte for itself.
 abbrev pub read_units : Bool → List ℕ → Option (List ℕ × List ℕ)
 read_units mode [] = None
 read_units mode (a ∷ []) = if a == byte "'" then Some ([], []) else None

@@ -1,6 +1,5 @@
--- The reading of a time text, as a function. Its meaning is the relation `IsTimeText` of TimeText.
--- The law `laws::time_texts_are_read` says that it reads exactly the time texts, each with its
--- meaning.
+-- The reading of a time text, as a function. The relation `IsTimeText` of TimeText is its meaning:
+-- `laws::time_texts_are_read` says that exactly the time texts are read, each with its meaning.
 use Rattle.std.specs.Prelude.{ℕ, ◌-◌, ◌*◌, ◌^◌, Bool, true, false, ◌==◌, nat_le, if◌then◌else◌, List, [], ◌∷◌, length, Option, None, Some}
 use Rattle.std.specs.Option.{option_map, option_or}
 use Rattle.std.specs.Str.{byte}

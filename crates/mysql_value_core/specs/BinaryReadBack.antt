@@ -33,8 +33,7 @@ value_read_back (Time negative days hours minutes seconds microseconds) =
     else Time negative days hours minutes seconds microseconds
 value_read_back value = value
 
--- before any bytes, the written value is read as the value that comes back, and these bytes are
--- left
+-- before any bytes, the written value is read as the value that comes back, and leaves these bytes
 abbrev pub ReadsBackInBinary : Value → Type 0
 ReadsBackInBinary value =
     (rest : List ℕ)

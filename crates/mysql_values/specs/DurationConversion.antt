@@ -28,8 +28,7 @@ nanoseconds_unless_negative (false, microseconds) = Some (microseconds * 1000)
 abbrev pub nanoseconds_of_text : List ℕ → Option ℕ
 nanoseconds_of_text text = option_and_then nanoseconds_unless_negative (time_of_text text)
 
--- the conversion of a value; a time that isn't negative converts, and so does a time text without
--- `-`
+-- the conversion of a value: a time that isn't negative converts, and a time text without `-`
 abbrev pub duration_conversion : Value → Option (ParseIrOpt ℕ)
 duration_conversion (Time false days hours minutes seconds microseconds) =
     Some (Parsed (total_microseconds days hours minutes seconds microseconds * 1000)

@@ -9,8 +9,7 @@ IsExpectedRefusal expected takes_memory (Some refusal) = expected ≡ Err refusa
 IsExpectedRefusal expected takes_memory None = takes_memory
 
 -- The result is the expected one: the view of its value, or the refusal that its error reports. Or
--- it is out of memory, which is possible only if the call allocates, and which is the only error
--- that is no refusal.
+-- it is out of memory, which is no refusal, and possible only if the call allocates.
 abbrev pub IsAnswer : {A Seen E Refusal : Type 0} → (A → Seen) → (E → Option Refusal)
     → Result Seen Refusal → Type 0 → Result A E → Type 0
 IsAnswer seen refusal_of expected takes_memory (Ok value) = expected ≡ Ok (seen value)

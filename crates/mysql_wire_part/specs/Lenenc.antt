@@ -20,8 +20,7 @@ lead_of_three = 0xFD
 abbrev pub lead_of_eight : ℕ
 lead_of_eight = 0xFE
 
--- A length below 251 is written in one byte. Any other is written in the first of two, three and
--- eight bytes that hold it, after the lead of this number of bytes.
+-- a length below 251 is written in one byte, any other in the first of 2, 3 and 8 that hold it
 abbrev pub length_spelling : ℕ → List ℕ
 length_spelling n =
     if nat_lt n least_lead then n ∷ [] else (

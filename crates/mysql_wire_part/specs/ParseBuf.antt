@@ -1,5 +1,4 @@
--- The result of a call that reads the front of a buffer, and the bytes that it leaves in the
--- buffer.
+-- The result of a call that reads the front of a buffer, and the bytes that it leaves there.
 use Rattle.std.specs.Prelude.{◌≡◌, ℕ, List, Option, Some, None, Ok, Err}
 use Rattle.mysql_wire_part.specs.declared.error.WireError.{WireError}
 use Rattle.mysql_wire_part.specs.declared.error.WireError.TheVariants.{UnexpectedEof, BadLengthLead, UnsupportedColumn, Memory}
@@ -11,8 +10,7 @@ abbrev pub left : ParseBuf → List ℕ
 left buf = buf.0.now
 
 -- The call returns the value that is read, and leaves the bytes after it. Or there are too few
--- bytes, and the buffer is unchanged. The bytes of the buffer are `old` before the call and `new`
--- after it.
+-- bytes, and the buffer is unchanged. Its bytes are `old` before the call and `new` after it.
 abbrev pub Eats : {X : Type 0} → Reading X → List ℕ → List ℕ → Option X → Type 0
 Eats read old new (Some x) = read ≡ Ok (x, new)
 Eats read old new None = (read ≡ Err unexpected_eof) × (new ≡ old)
