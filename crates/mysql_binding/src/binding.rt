@@ -74,9 +74,9 @@ use std::alloc::Global;
 /// - a name or mark doesn't stand alone;
 /// - a value is a float.
 ///
-/// A name or mark stands alone if nothing, white space or one of `(,=<>+-*/%&|^~` is directly
-/// before it, and nothing, white space or one of `),;=<>+-*/%&|^!` directly after it. The
-/// parameters are consumed, even if the call is refused.
+/// A name or mark stands alone if both sides allow it. Directly before it there is nothing, white
+/// space or one of `(,=<>+-*/%&|^~`. Directly after it there is nothing, white space or one of
+/// `),;=<>+-*/%&|^!`. The parameters are consumed, even if the call is refused.
 ///
 /// `no_backslash_escape` is the server's mode. The query is read and the literals are written in
 /// this mode, as [`ParsedNamedParams`](mysql_named_params::named_params::ParsedNamedParams) reads a

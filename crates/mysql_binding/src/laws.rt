@@ -29,7 +29,7 @@ use crate::bind_error::BindError;
 use crate::bind_pairs_error::BindPairsError;
 use crate::binding::{ParsedQuery, WideQuery};
 
-/// If texts with the shape of literals replace the names and marks of a query, the tokens of the
+/// Put texts with the shape of literals in place of a query's names and marks. The tokens of the
 /// result are the query's, with those of each text in place of its name or mark. No place is left
 /// among them.
 pub fn isolation()
@@ -46,11 +46,11 @@ pub fn isolation()
 {}
 
 /// A text that is bound to a portable query is portable (`portable`). Every honest server reads it
-/// like the grammar, whatever its values contain: its tokens are the query's, with those of one
+/// like the grammar, whatever its values contain. Its tokens are the query's, with those of one
 /// literal in place of each name and mark. Only `--` before a newline and the content of quiet
-/// comments may differ (`read`). If the server decides about a quiet comment by the comment's own
-/// text, its tokens are exactly those that it reads in the query, with those of one literal in
-/// place of each name and mark (`tokens`).
+/// comments may differ (`read`). A server may decide about a quiet comment only by the comment's
+/// own text. Then it reads exactly the tokens that it reads in the query, with those of the
+/// literals in the places (`tokens`).
 pub fn bound_texts_on_servers()
     ensures portable { (mode : Bool) (query text : List ℕ) (ts : List Token) (given : Given) →
         IsTokens mode query ts → (b : IsBoundText mode ts given text) → AreReadAlike ts →
@@ -69,13 +69,13 @@ pub fn bound_texts_on_servers()
 {}
 
 /// A client that keeps comments cuts a text that is bound to a portable query into as many
-/// statements as the query has, whatever its values contain (`count`). The query must have no
-/// `/*!`, `/*+` or `/*/` in a block comment; then the text has none there either (`no_opener`). The
-/// client reads the text like the grammar. Only `--` before a newline and the content of quiet
-/// comments may differ (`read`). If the client decides about a quiet comment by the comment's own
-/// text, it reads the tokens that it reads in the query, with those of one literal in place of each
-/// name and mark (`tokens`). Its statements are then those of the query, with literals in their
-/// places (`statements`).
+/// statements as the query has (`count`). The values of the text make no difference. The query must
+/// have no `/*!`, `/*+` or `/*/` in a block comment; then the text has none there either
+/// (`no_opener`). The client reads the text like the grammar. Only `--` before a newline and the
+/// content of quiet comments may differ (`read`). A client may decide about a quiet comment only by
+/// the comment's own text. Then it reads the tokens that it reads in the query, with those of the
+/// literals in the places (`tokens`). Its statements are then those of the query, with literals in
+/// their places (`statements`).
 pub fn bound_texts_in_clients()
     ensures no_opener { (mode : Bool) (text : List ℕ) (ts : List Token) (given : Given) →
         (b : IsBoundText mode ts given text) → HoldNoOpener ts →
@@ -99,10 +99,10 @@ pub fn bound_texts_in_clients()
         statements_with_literals (statements us) b.literal_tokens }
 {}
 
-/// If a query is portable in a client, a text that is bound to it is too, if no literal has a
-/// newline or a byte 0 (`portable`). With backslash escapes no literal has one (`escaped`). Without
-/// them, a string has those of its value, and a client may drop one. In this case the bound text
-/// itself has to be tested.
+/// If a query is portable in a client, and no literal has a newline or a byte 0, a text that is
+/// bound to the query is portable there too (`portable`). With backslash escapes no literal has one
+/// (`escaped`). Without them, a string has those of its value, and a client may drop one. In this
+/// case the bound text itself has to be tested.
 pub fn bound_texts_are_sent()
     ensures portable { (mode : Bool) (query text : List ℕ) (ts : List Token) (given : Given) →
         IsTokens mode query ts → (b : IsBoundText mode ts given text) → AreInLine b.literals →
@@ -143,8 +143,8 @@ pub fn one_bound_text()
         IsBoundText mode ts given a → IsBoundText mode ts given b → a ≡ b }
 {}
 
-/// If a query has no capitals after a colon or a name, wide names give the same text as the names
-/// of the grammar, or the same cause of refusal.
+/// For a query without capitals after a colon or a name, wide names make no difference. They give
+/// the same text as the names of the grammar, or the same cause of refusal.
 pub fn wide_names_without_capitals()
     ensures cause { (ts : List Token) (given : Given) → HasNoCapitals ts →
         first_cause (widened ts) given ≡ first_cause ts given }

@@ -70,7 +70,7 @@ impl ByteSet for Neither {
 }
 
 /// The end of the run of bytes of the set that begins at `from`. If the run reaches `end`, the
-/// result is `end` or an index after it up to which the run goes: as long as the text has 16 more
+/// result is `end` or an index after it up to which the run goes. As long as the text has 16 more
 /// bytes, they are searched at once, even beyond `end`. The function is inlined, so that each set
 /// has a loop of its own. For the crate above.
 #[inline(always)]

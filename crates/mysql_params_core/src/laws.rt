@@ -68,7 +68,7 @@ pub fn lookups_agree()
     ensures agree { LookupsAgree }
 {}
 
-/// The test for a prefix is right: the names of a list that are in a map are a prefix of the list
+/// The test for a prefix is right. The names of a list that are in a map are a prefix of the list
 /// if and only if their indices are those below some count.
 pub fn prefixes_are_found()
     ensures found { PrefixesAreFound }

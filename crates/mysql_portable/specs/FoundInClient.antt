@@ -13,7 +13,7 @@ use Rattle.mysql_portable.specs.Client.{holds_opener}
 use Rattle.mysql_portable.specs.declared.portable.Construct.{Construct}
 use Rattle.mysql_portable.specs.declared.portable.Construct.TheVariants as construct
 
--- ---- where a token stands
+-- ---- the place of a token
 
 -- a token of a comment
 abbrev pub is_comment : Token → Bool
@@ -184,7 +184,7 @@ begins_delimiter_line [] = false
 begins_delimiter_line (b ∷ bs) =
     (b == newline && begins_word (codes "delimiter") bs) || begins_delimiter_line bs
 
--- ---- what is found
+-- ---- findings
 
 -- In a text in quotes or backquotes. The client drops the newline at the end of a line that begins
 -- with `delimiter`, even if the word is in quotes that end on that line.

@@ -1,5 +1,6 @@
-//! The parts of the wire protocol that MySQL values need: a buffer that is read from its front,
-//! length-encoded strings, types and flags of columns, and the traits for writing and reading.
+//! The parts of the wire protocol that MySQL values need. They are a buffer that is read from its
+//! front, length-encoded strings, types and flags of columns, and the traits for writing and
+//! reading.
 #![tactic(auto)]
 
 mod codec;

@@ -54,12 +54,12 @@ pub trait FromValue: Sized {
     /// The result of a conversion before it is decided whether `Self` or the value is wanted.
     type Intermediate: TryFrom<Value, Error = FromValueError> + Into<Self> + IntoValue;
 
-    // what contracts see of the type
+    // the view that contracts have of the type
     ghost Seen: { Type 0 };
 
     ghost seen: { Self → Seen };
 
-    // what contracts see of the intermediate
+    // the view that contracts have of the intermediate
     ghost SeenIr: { Type 0 };
 
     ghost seen_ir: { Self.Intermediate → SeenIr };

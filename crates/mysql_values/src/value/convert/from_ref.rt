@@ -31,7 +31,7 @@ use std::time::Duration;
 /// value that doesn't convert. [`copied_text`] and [`copied_bytes`] make them, so no call makes an
 /// `Option<String>`.
 pub trait FromValueRef<'v>: Sized {
-    // what contracts see of the type
+    // the view that contracts have of the type
     ghost Seen: { Type 0 };
 
     ghost seen: { Self → Seen };
