@@ -42,7 +42,7 @@ found_refused reading query given survey values error surveyed found later =
     (λ ts is h. cause_after_values ts given values error h.1.0 h.1.1 (later_cause ts values) refl (later ts h.0))
     (on_both reading query (IsSurvey survey) (AreFound given values) surveyed found)
 
--- an error that is handed on
+-- an error that is passed on
 pub handed_on : {A E : Type 0} (P : E → Type 0) (r : Result A E) (e : E) → IsErrAnd r (λ t. t ≡ e) → P e → IfErr r P
 handed_on P (Ok a) e same h = absurd same
 handed_on P (Err t) e same h = subst P (sym same) h

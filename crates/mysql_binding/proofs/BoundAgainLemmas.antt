@@ -1,5 +1,5 @@
--- What holds of a bound text: no place is left in it, bound again it stays as it is, bound by position
--- it is the same, and equal texts say the same.
+-- Facts about a bound text. No place is left in it. Bound again, it stays as it is. Bound by
+-- position, it is the same. Equal texts say the same.
 use Rattle.std.proofs.Common.{◌≡◌, Bool, ℕ, ◌+◌, List, [], ◌∷◌, ◌++◌, length, map, refl, sym, ap, ◌∙◌, subst, arith, Some}
 use Rattle.std.proofs.lemmas.List.{nil_from_length}
 use Rattle.mysql_values.specs.Content.{content_of}

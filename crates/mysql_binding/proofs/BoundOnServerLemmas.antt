@@ -32,7 +32,7 @@ module _ (mode : Bool) (query text : List ℕ) (ts : List Token) (literals : Lis
       spliced_read server mode ts vs lists honest h.each p (literals_spliced mode text ts literals lists s a e) (literals_settled mode text ts literals lists s a e)
       (subst (λ x. IsReadOn server mode x vs) (sym (spliced_text mode ts literals lists text a e)) v)
 
--- the tokens of literals, read alone
+-- the tokens of literals, each read by itself
 pub literals_on : (server : Server) (mode : Bool) (literals : List (List ℕ)) (lists : List (List Token)) →
     AreLiterals mode literals → AreTokensOf mode literals lists → AreReadOn server mode literals lists
 literals_on server mode [] [] s a = tt

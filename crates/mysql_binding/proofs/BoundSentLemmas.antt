@@ -1,4 +1,4 @@
--- A bound text is sent as it is, if its literals stand in one line.
+-- A bound text is sent as it is, if its literals are in one line.
 use Rattle.std.specs.Prelude.{Bool, IfSome}
 use Rattle.std.proofs.Common.{◌≡◌, ℕ, true, List, [], ◌∷◌, map, Option, Some, None, subst, ◌∙◌}
 use Rattle.mysql_values.specs.declared.value.Value.{Value}
@@ -18,7 +18,7 @@ use Rattle.mysql_binding.proofs.SentLiteralLemmas.{literal_sent, sent_alone}
 use Rattle.mysql_binding.proofs.SentTextLemmas.{IsSentAt, spliced_sent}
 use Rattle.mysql_binding.proofs.SpliceLemmas.{Each, HoldsAlone, alone, as_many_lists}
 
--- the literals of values stand in one line, if the literal of each value does
+-- the literals of values are in one line, if the literal of each value is
 pub written_in_line : (literal : Value → Option (List ℕ)) → ((v : Value) → IfSome (literal v) StandsInLine) →
     (values : List Value) (texts : List (List ℕ)) → map literal values ≡ map Some texts → AreInLine texts
 written_in_line literal each values [] e = tt

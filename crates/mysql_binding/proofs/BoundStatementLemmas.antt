@@ -57,7 +57,7 @@ both_within mode first more a b = record {
   stay = StayWithin-append a.tokens b.tokens a.stay b.stay;
 }
 
--- its tokens, read alone, are these
+-- its tokens, read by itself, are these
 pub list_within : (mode : Bool) (literal : List ℕ) (list : List Token) → WithinLiteral mode literal →
     IsTokens mode literal list → StayWithin list
 list_within mode literal list w a =

@@ -1,4 +1,4 @@
--- The pieces of a query with the literals of values between them keep what is promised.
+-- The pieces of a query with the literals of values between them keep the promises.
 use Rattle.std.specs.Prelude.{Result, Ok, Err, IfErr, IfOk, option_map, IsSomeAnd}
 use Rattle.std.specs.Option.{option_or}
 use Rattle.std.proofs.Common.{◌≡◌, ◌⊎◌, inl, inr, Bool, ℕ, ◌<◌, List, [], ◌∷◌, length, map, refl, sym, ap, subst, ◌∙◌, arith, Option, Some, None}
@@ -212,7 +212,7 @@ no_float_among reading query given values h = none_mapped (first_float values) (
     none_mapped None e = refl
     none_mapped (Some n) e = cc
 
--- ---- what is promised of a text
+-- ---- the promises about a text
 
 pub given_on : (reading : Reading) (literal : Literals) (IsKnown : LiteralFacts) (query : List ℕ) (given : Given) (values : List Value)
     (text : List ℕ) → OnTokensIn reading query (λ ts. IsLookedUp ts given values) →

@@ -1,4 +1,4 @@
--- Tests of bytes that may stand beside a place.
+-- Tests of bytes that may be beside a place.
 use Rattle.std.proofs.Common.{◌≡◌, ◌++◌, ◌==◌, not, ℕ, Bool, true, false, List, [], ◌∷◌, arith, inl, inr, refl, ap, ◌∙◌, sym, true≢false}
 use Rattle.std.specs.List.{list_all}
 use Rattle.std.proofs.lemmas.Bool.{and_parts, or_cases, eqb-true}
@@ -26,7 +26,7 @@ one_of_failing test (c ∷ bytes) b all h =
 space_continues_nothing : (b : ℕ) → is_white_space b ≡ true → continues_literal b ≡ false
 space_continues_nothing b h = grind (arith, nat_tests)
 
--- what may stand after a place is no more of a literal before it
+-- a byte that may be after a place doesn't continue a literal before it
 pub behind_ends : (b : ℕ) → may_stand_after b ≡ true → continues_literal b ≡ false
 behind_ends b h =
     elim (or_cases (is_white_space b) _ h) [
@@ -37,7 +37,7 @@ behind_ends b h =
 space_in_no_name : (b : ℕ) → is_white_space b ≡ true → is_wide_byte b ≡ false
 space_in_no_name b h = grind (arith, nat_tests)
 
--- what may stand before a place is no byte of a name
+-- a byte that may be before a place is no byte of a name
 before_in_no_name : (b : ℕ) → may_stand_before b ≡ true → is_wide_byte b ≡ false
 before_in_no_name b h =
     elim (or_cases (is_white_space b) _ h) [
@@ -52,7 +52,7 @@ wide_byte_not_before b h = go (may_stand_before b) refl
     go true e = absurd (true≢false (sym h ∙ before_in_no_name b e))
     go false e = refl
 
--- a piece whose first byte may stand after a place, before something other or at the end
+-- a piece whose first byte may be after a place, before another text or at the end
 pub piece_ends : (piece rest : List ℕ) (b : ℕ) (more : List ℕ) → may_stand_after b ≡ false →
     none_or_first may_stand_after (piece ++ b ∷ more) ≡ true →
     BeginsWithout continues_literal (piece ++ rest)

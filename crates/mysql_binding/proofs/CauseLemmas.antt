@@ -23,7 +23,7 @@ use Rattle.mysql_binding.specs.Survey.{IsSurvey}
 use Rattle.mysql_binding.specs.declared.binding.survey.Survey.{Survey}
 use Rattle.mysql_binding.proofs.RenamedPlaceLemmas.{first_not_alone-with_marks, no_place_alone}
 
--- ---- what several calls say of the tokens of one query
+-- ---- facts about the tokens of one query that several calls state
 
 pub on_both : (reading : Reading) (query : List ℕ) (P Q : List Token → Type 0) →
     OnTokensIn reading query P → OnTokensIn reading query Q → OnTokensIn reading query (λ ts. P ts × Q ts)
@@ -250,7 +250,7 @@ value_each ts given values mixed looked later = by (names ts) refl
         no_mark (inl a) b = absurd (omega (arith, a, b))
         no_mark (inr a) b = a
 
--- what is there is not refused
+-- a result that is there isn't refused
 pub never_refused : {T E X : Type 0} → (a : T) (e : E) → ◌≡◌ {A = Result T E} (Ok a) (Err e) → X
 never_refused {T = T} {E = E} a e h = absurd (apart h)
   where

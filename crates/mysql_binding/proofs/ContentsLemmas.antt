@@ -44,7 +44,7 @@ place_alone place before bytes ts e =
     let p = alone_parts (stands_alone before (text_of ts)) _ _ e in
     ((and_parts (none_or_last may_stand_before before) _ p.0).1, p.1)
 
--- what stands after a place that stands alone doesn't continue the literal in it
+-- the text after a place that stands alone doesn't continue the literal in the place
 ends_before : (ts : List Token) (literals : List (List ℕ)) →
     none_or_first may_stand_after (text_of ts) ≡ true →
     BeginsWithout continues_literal (bound ts literals)

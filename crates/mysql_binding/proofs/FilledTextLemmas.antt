@@ -20,7 +20,7 @@ pub item_is : (xs ys : List ValueRef) (i : ℕ) (d : ValueRef) → i < length xs
 item_is xs ys i d below same =
     get_or_default xs i d (get_or xs i d) below ∙ ap (λ zs. get_or zs i (get_or xs i d)) same
 
--- the text is written as far as the index, and has room for what is left
+-- the text is written up to the index, and has room for the rest
 pub record FilledSoFar (reading : Reading) (literal : Literals) (IsKnown : LiteralFacts) (query rest : List ℕ) (values : List ValueRef) (i : ℕ) (text : List ℕ) (at : ℕ) : Type 0 where
   pub so_far : WrittenSoFar reading literal IsKnown query rest (owned_values values) i (take at text) (length text)
   pub in_range : at ≤ length text

@@ -7,7 +7,8 @@ use Rattle.mysql_binding.proofs.ContentsLemmas.{alone_parts}
 use Rattle.mysql_binding.proofs.StandsAloneLemmas.{choice}
 use Rattle.mysql_named_params.proofs.TokenRowLemmas.{text_then-append}
 
--- each place stands alone, if this text stands before the tokens and that after them
+-- each place stands alone, if the text `before` comes before the tokens and the text `rest` after
+-- them
 abbrev AllAloneFrom : List ℕ → List Token → List ℕ → Type 0
 AllAloneFrom before ts rest = (front : List Token) (t : Token) (back : List Token) →
     front ++ t ∷ back ≡ ts → IsPlace t →
@@ -41,7 +42,7 @@ all_alone (Mark ∷ ts) place before e =
 all_alone (t ∷ ts) place before e =
     one_more_alone before t ts [] (λ i. absurd i) (all_alone ts place (before ++ bytes_of t) e)
 
--- the first that doesn't, if so many places and this text stand before the tokens
+-- the first that doesn't, if `place` places and the text `before` come before the tokens
 record IsFirstFrom (place : ℕ) (before : List ℕ) (ts : List Token) (number at : ℕ) : Type 0 where
   front : List Token
   found : Token

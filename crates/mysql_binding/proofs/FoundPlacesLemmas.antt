@@ -130,7 +130,7 @@ found_count before (Name name ∷ ts) = omega (arith, found_count 0 ts)
 found_count before (Mark ∷ ts) = omega (arith, found_count 0 ts)
 found_count before (t ∷ ts) = found_count (before + length (bytes_of t)) ts
 
--- with those of the rest, the places so far are those of the query, which has so many
+-- the places so far, with those of the rest, are those of the query, which has `count` places
 pub record CollectedSoFar (reading : Reading) (query rest : List ℕ) (count : ℕ) (places : List FoundPlace) : Type 0 where
   pub all : List Token
   pub tokens : IsTokensIn reading query all

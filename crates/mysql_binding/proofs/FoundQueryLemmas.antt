@@ -1,4 +1,4 @@
--- What is kept of a query in a reading, as it is seen of a query in a mode.
+-- The parts that are kept of a query in a reading, by the view of a query in a mode.
 use Rattle.std.specs.Prelude.{◌≡◌, Bool, List, ℕ}
 use Rattle.std.proofs.Common.{◌∙◌, ap, subst}
 use Rattle.mysql_named_params.specs.Tokens.{Token}
@@ -22,14 +22,14 @@ module _ (wide : Bool) (reading : Reading) (query : List ℕ) (seen : QueryInMod
   pub reading_seen : reading ≡ reading_of wide seen.mode
   reading_seen = subst (λ (q : QueryInMode). reading ≡ reading_of wide q.mode) view_is reading_is
 
-  -- what holds of a query in its reading holds of what is seen of it
+  -- a fact about a query in its reading is a fact about its view
   pub seen_on : (P : List Token → Type 0) → OnTokensIn reading query P →
       OnTokensIn (reading_of wide seen.mode) seen.query P
   seen_on P o =
       subst (λ (q : QueryInMode). OnTokensIn (reading_of wide q.mode) q.query P) view_is
       (subst (λ (r : Reading). OnTokensIn r query P) reading_is o)
 
--- what is kept of a query, for its one list of tokens
+-- the survey and the places that are kept of a query, for its one list of tokens
 pub on_parsed : (survey : Survey) (places : List FoundPlace) (reading : Reading) (query : List ℕ) →
     AreParsed survey places reading query →
     OnTokensIn reading query (λ ts. IsSurvey survey ts × (places ≡ found_places ts))

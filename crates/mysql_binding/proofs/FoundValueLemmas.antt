@@ -25,7 +25,7 @@ found_value (Some w) v why e = cc
 value_in_map : (m : ValueMap) (n : List ℕ) (v : Value) → lookup (named m) (n ∷ []) ≡ Ok (v ∷ []) → get m n ≡ Some v
 value_in_map m n v e = found_value (get m n) v _ e
 
--- what a map gives for a name by itself
+-- the value that a map gives for one name
 pub looked_up_in_map : (m : ValueMap) (n : List ℕ) (v : ValueRef) → option_map owned (Some v) ≡ get m n → lookup (named m) (n ∷ []) ≡ Ok (owned v ∷ [])
 looked_up_in_map m n v e = rw (sym e) refl
 

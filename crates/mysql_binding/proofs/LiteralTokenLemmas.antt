@@ -1,5 +1,6 @@
--- A literal, known by its shape alone: its first bytes, which open nothing with the byte before them,
--- and its tokens. None of them is a place, and they end where it ends and are portable, whatever follows.
+-- A literal, known only by its shape: its first bytes, which open nothing with the byte before
+-- them, and its tokens. None of them is a place. They end at its end and are portable, whatever
+-- follows.
 use Rattle.std.specs.Prelude.{⊤}
 use Rattle.std.proofs.Common.{◌≡◌, ◌++◌, ◌==◌, ◌&&◌, ◌||◌, not, ℕ, Bool, true, false, List, [], ◌∷◌, None, arith, inl, inr, refl, ap, ◌∙◌, sym, append-nil, append_assoc, true≢false}
 use Rattle.std.specs.Char.{is_ascii_digit}
@@ -201,7 +202,7 @@ IsLiteral-cut mode (quoted_literal literal h) = quoted_cut mode literal h
 
 -- ---- its first bytes
 
--- a byte that opens nothing, whatever stands before it
+-- a byte that opens nothing, whatever comes before it
 first_byte : (b : ℕ) (bs : List ℕ) (before : ℕ) → joins_nothing b ≡ true → is_start_byte b ≡ false →
     opens_nothing_after before (b ∷ bs) ≡ true
 first_byte b bs before j n = rw (j, n) refl

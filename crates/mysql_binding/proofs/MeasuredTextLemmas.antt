@@ -1,4 +1,4 @@
--- The text that is written from what was measured, and its length.
+-- The text that is written from a measured text, and its length.
 use Rattle.std.specs.Prelude.{Ok, Err, IfErr, IfOk, Result, option_map, ◌^◌}
 use Rattle.mysql_value_core.specs.declared.value.ValueRef.{ValueRef}
 use Rattle.std.specs.List.{All, sum, sum_by}
@@ -109,7 +109,7 @@ module _ (literal : Literals) (ts : List Token) (given : Given) (measured : Meas
     omega (arith, bound_len ts texts text_for_each, pieces_len-plain_len ts, lens_sum, is.len_is),
   )
 
--- what is measured, as the code finds it
+-- the measured text that the code finds
 pub is_measured : (reading : Reading) (literal : Literals) (query : List ℕ) (given : Given) (survey : Survey) (values : List ValueRef) (measured : MeasuredText) →
     OnTokensIn reading query (IsSurvey survey) → OnTokensIn reading query (λ ts. IsLookedUp ts given (owned_values values)) →
     measured.values.items ≡ values → All FieldsInRange (owned_values values) →
@@ -128,7 +128,7 @@ is_measured reading literal query given survey values measured surveyed known sa
     })
     (on_both reading query (IsSurvey survey) (λ ts. IsLookedUp ts given (owned_values measured.values.items)) surveyed looked)
 
--- ---- what the text is filled from
+-- ---- the parts from which the text is filled
 
 module _ (reading : Reading) (literal : Literals) (query : List ℕ) (given : Given) (measured : MeasuredText) (o : OnTokensIn reading query (λ ts. IsMeasured literal ts given measured)) where
   pub fill_no_float : first_float (owned_values measured.values.items) ≡ None
@@ -149,7 +149,7 @@ module _ (reading : Reading) (literal : Literals) (query : List ℕ) (given : Gi
   filled_text IsKnown text written =
       given_on reading literal IsKnown query given (owned_values measured.values.items) text (o.0, o.1, o.2.looked_up) written
 
--- ---- where it stands
+-- ---- its place
 
 -- a vector whose whole length is written over
 pub whole_vector : (text items : List ℕ) (n : ℕ) → length text ≡ n → take n (text ++ drop (length text) items) ≡ text
@@ -163,7 +163,7 @@ front_text reading literal IsKnown query given len text room fits long o =
     let front : take len (text ++ drop len room) ≡ text = take-append-le len text (drop len room) (omega (arith, long)) ∙ take_all len text (omega (arith, long)) in
     (o.0, o.1, (fits, subst (IsGivenText literal IsKnown o.0 given) (sym front) o.2, drop-append-drop len room text len (omega arith) long))
 
--- ---- values that are found, as `measured_values` tells of them
+-- ---- values that are found, as `measured_values` returns them
 
 pub measured_found : {E : Type 0} (reading : Reading) (query : List ℕ) (literal : Literals) (given : Given) (survey : Survey) (vs : List Value) (r : Result MeasuredText E) →
     IfOk r (λ measured. (reading : Reading) (query : List ℕ) (given : Given) → OnTokensIn reading query (IsSurvey survey) → OnTokensIn reading query (AreFound given vs) → OnTokensIn reading query (λ ts. IsMeasured literal ts given measured)) →

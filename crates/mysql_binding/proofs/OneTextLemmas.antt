@@ -1,4 +1,4 @@
--- What is given to a query has one text.
+-- A query has one text for the same parameters.
 use Rattle.std.specs.Prelude.{Bool, List, [], ◌∷◌, ℕ, Some, Ok, Result, map}
 use Rattle.std.proofs.Common.{◌≡◌, ◌∙◌, ap, refl, subst, sym}
 use Rattle.mysql_values.specs.declared.value.Value.{Value}

@@ -1,4 +1,4 @@
--- What is quiet in a text stays so up to a place, where another text follows instead.
+-- A quiet text stays quiet up to a place, where another text follows instead.
 use Rattle.std.specs.Prelude.{Bool}
 use Rattle.std.proofs.Common.{◌≡◌, ℕ, ◌+◌, true, false, cond, not, ◌==◌, ◌&&◌, ◌||◌, List, [], ◌∷◌, ◌++◌, refl, sym, ap, ◌∙◌, subst, inl, inr, true≢false}
 use Rattle.std.specs.Char.{is_ascii_digit}
@@ -17,7 +17,7 @@ use Rattle.mysql_binding.proofs.UpToSpliceLemmas.{SameUpToSplice, at_end, same, 
 no_place_slash : (b : ℕ) (x : List ℕ) → begins_place (b ∷ x) ≡ true → b ≡ slash → ⊥
 no_place_slash b x p e = true≢false (sym (subst (λ u. begins_place (u ∷ x) ≡ true) e p))
 
--- a place doesn't stand apart
+-- a text that begins with a place doesn't stand apart
 place_not_apart : (b : ℕ) (x : List ℕ) → begins_place (b ∷ x) ≡ true → stands_apart (b ∷ x) ≡ false
 place_not_apart b x p =
     elim (place_byte b x p) [
@@ -30,13 +30,13 @@ apart_move at_end h = h
 apart_move (same a) h = h
 apart_move (at_place {b = b} {x = x} p l) h = absurd (true≢false (sym h ∙ place_not_apart b x p))
 
--- `*/` before what stands apart stays so
+-- `*/` before a text that stands apart stays so
 end_move : (b c : ℕ) {x y : List ℕ} → SameUpToSplice c x y →
     (closes b (c ∷ x) && not (stands_apart x)) ≡ false → (closes b (c ∷ y) && not (stands_apart y)) ≡ false
 end_move b c {x = x} a h =
     false_if _ _ (λ t. ap not (apart_move a (not-false _ (second_false (closes b (c ∷ x)) _ h t))))
 
--- a version, and what ends it, stays one
+-- a version and its end stay a version
 place_no_version : (n b : ℕ) (x : List ℕ) → begins_place (b ∷ x) ≡ true → ends_version n (b ∷ x) ≡ false
 place_no_version n b x p =
     elim (place_byte b x p) [

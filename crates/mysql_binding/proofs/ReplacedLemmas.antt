@@ -1,5 +1,5 @@
--- Literals in the places of a query, an instance of the splice law: the tokens of the text, and that no
--- place is left. It stands on the shape of literals alone.
+-- Literals in the places of a query, an instance of the splice law: the tokens of the text, in
+-- which no place is left. It depends only on the shape of literals.
 use Rattle.std.specs.Prelude.{Bool}
 use Rattle.std.proofs.Common.{◌≡◌, ℕ, List, [], ◌∷◌, length, true, Some, ◌∙◌, subst}
 use Rattle.mysql_sql_text.specs.LiteralShape.{IsLiteral}

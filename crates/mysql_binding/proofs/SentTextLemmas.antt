@@ -1,6 +1,6 @@
--- A client that sends a query as it is sends so each text of it in whose places, if these stand alone,
--- lists stand that are sent as they are (`IsSentAt`): nothing that is found of FoundInClient.antt comes
--- of what stands together.
+-- A client that sends a query as it is also sends a text of it as it is. The places have to stand
+-- alone, and the lists in the places have to be sent as they are (`IsSentAt`). Then no construct of
+-- FoundInClient.antt comes from texts that come together.
 use Rattle.std.specs.Prelude.{Bool, ⊤, nat_le, nat_lt}
 use Rattle.std.proofs.Common.{◌≡◌, ◌++◌, ◌==◌, ◌&&◌, ◌||◌, not, ℕ, true, false, List, [], ◌∷◌, if◌then◌else◌, codes, Option, None, Some, arith, inl, inr, refl, ap, ◌∙◌, sym, subst, true≢false}
 use Rattle.std.specs.Char.{is_ascii_digit, to_ascii_lowercase}
@@ -23,7 +23,7 @@ use Rattle.mysql_binding.proofs.LiteralTokenLemmas.{is_alphanumeric, other}
 use Rattle.mysql_binding.proofs.SpliceLemmas.{AtPlaces, name_begins}
 use Rattle.mysql_binding.proofs.UpToSpliceLemmas.{last_byte}
 
--- ---- what a text in a place begins with
+-- ---- the front of a text in a place
 
 unfoldable pub is_sent_first : ℕ → Bool
 is_sent_first b = is_alphanumeric b || (b == underscore || (b == single_quote || (b == backquote || (b == byte "(" || b == question_mark))))
@@ -88,7 +88,7 @@ up_append : (before : ℕ) (bytes : List ℕ) {x y : List ℕ} → UpTo (last_by
 up_append before [] u = u
 up_append before (b ∷ bytes) u = up_same (up_append b bytes u)
 
--- ---- tests of what follows
+-- ---- tests of the text that follows
 
 and_none : (a : Bool) → (a && false) ≡ false
 and_none true = refl
@@ -243,7 +243,7 @@ null_moves b (up_line more) h = h
 
 -- ---- words
 
--- what may stand before a place is no letter to a client
+-- a byte that may be before a place is no letter to a client
 stands_below : (c : ℕ) → may_stand_before c ≡ true → nat_lt c 192 ≡ true
 stands_below c h = grind (arith, nat_tests)
 
@@ -320,7 +320,7 @@ pub no_word_found : (statement line : Bool) (letter : ℕ) (rest : List ℕ) →
 no_word_found statement line letter rest f =
     rw (no_letter letter (byte "d") f refl, no_client_word letter rest f, and_none line, and_none statement) refl
 
--- ---- what is found, before such a text
+-- ---- the constructs that are found before such a text
 
 pub none_parts : (c : Bool) (k : Construct) (r : Option Construct) → (if c then Some k else r) ≡ None → (c ≡ false) × (r ≡ None)
 none_parts true k r e = cc
@@ -399,7 +399,7 @@ abbrev pub line_after : Bool → List Token → Bool
 line_after line [] = line
 line_after line (t ∷ ts) = line_after (begins_line line t) ts
 
--- what is to be known of the list in a place, of the byte before it, and of the text after it
+-- the facts about the list in a place, the byte before it, and the text after it
 pub record IsSentAt (before : ℕ) (list : List Token) (rest : List ℕ) : Type 0 where
   pub stands : may_stand_before before ≡ true
   pub front : begins_as_sent (text_then rest list) ≡ true

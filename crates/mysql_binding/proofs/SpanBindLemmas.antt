@@ -1,4 +1,4 @@
--- What is bound by the spans of a query's places is what is bound to the query.
+-- The text that is bound by the spans of a query's places is the text that is bound to the query.
 use Rattle.std.specs.Prelude.{Option, None, Ok, Err, IfOk, Result}
 use Rattle.std.proofs.Common.{◌≡◌, ◌⊎◌, inl, inr, ℕ, zero, suc, ◌<◌, false, List, [], ◌∷◌, length, map, take, take_all, Some, refl, sym, ap, ◌∙◌, arith}
 use Rattle.std.proofs.lemmas.List.{nil_from_length}
@@ -70,7 +70,7 @@ value_for_each_span spanned given values never looked counted = by spanned.surve
         none zero m = m
         none (suc k) m = absurd (never (omega (arith, e), omega (arith, m)))
 
--- an error of the lookup refuses what is given for these names
+-- an error of the lookup refuses the parameters for these names
 pub refused_names : (given : Given) (ns : List (List ℕ)) (error : BindError) (refusal : LookupRefusal) → IsLookupError given ns error →
     cause_of error ≡ Some (refused_params refusal) → lookup given ns ≡ Err refusal
 refused_names given ns error refusal (inl memory) is =
@@ -81,7 +81,7 @@ refused_names given ns error refusal (inr r) is =
     let same_why : r.0 ≡ refusal = cc in
     r.1 ∙ ap (λ why. Err why) same_why
 
--- what is measured is ready for the spans
+-- a measured text is ready for the spans
 pub ready_spans : {E : Type 0} (literal : Literals) (spanned : SpannedQuery) (given : Given) (values : List Value) →
     (0 < spanned.survey.names × 0 < spanned.survey.marks → ⊥) →
     lookup given (spanned_names spanned) ≡ Ok values →

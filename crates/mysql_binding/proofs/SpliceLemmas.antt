@@ -49,8 +49,8 @@ IsSettled before list rest = AreSettledBefore rest list
 abbrev pub IsPlaceless : ℕ → List Token → List ℕ → Type 0
 IsPlaceless before list rest = place_count list ≡ 0
 
--- there are as many lists as places, and in each place this holds of the byte before it, its list and
--- the text after it; this byte stands before the tokens
+-- There are as many lists as places. In each place `Holds` is true for the byte before it, its list
+-- and the text after it. The byte `before` comes before the tokens.
 abbrev pub AtPlaces : (ℕ → List Token → List ℕ → Type 0) → ℕ → List Token → List (List Token) → Type 0
 AtPlaces Holds before [] [] = ⊤
 AtPlaces Holds before [] (list ∷ lists) = ⊥
@@ -207,7 +207,7 @@ stands_before : (text : List ℕ) → none_or_last may_stand_before text ≡ tru
 stands_before [] h = refl
 stands_before (b ∷ bytes) h = last_stands space b bytes h
 
--- what may stand after a place is no place, so it stays
+-- a byte that may be after a place begins no place, so it stays
 pub first_stays : (ts : List Token) (lists : List (List Token)) → none_or_first may_stand_after (text_of ts) ≡ true →
     none_or_first may_stand_after (text_of (with_literal_tokens ts lists)) ≡ true
 first_stays [] lists h = refl

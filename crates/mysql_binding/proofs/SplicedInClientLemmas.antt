@@ -1,4 +1,4 @@
--- A client that keeps comments, at a text of a portable query in whose places lists stand that hold
+-- A client that keeps comments, at a text of a portable query. The lists in the query's places hold
 -- no comment and no `;`.
 use Rattle.std.specs.Prelude.{Bool}
 use Rattle.std.proofs.Common.{◌≡◌, ℕ, List, [], length, ap, ◌∙◌}

@@ -1,8 +1,8 @@
--- The splice law on servers: with lists of tokens in the places of a portable query, what an honest server
--- reads is known (SpliceLemmas says of which facts). `spliced_on`: if the server decides about quiet
--- comments within, the tokens that it reads in the query, with the lists in its places.
--- `spliced_read`: on any honest server, what it reads of the tokens of the text. `list_on`: one list,
--- read alone.
+-- The splice law on servers: the tokens that an honest server reads, with lists of tokens in the
+-- places of a portable query (SpliceLemmas names the facts that it needs). `spliced_on`: if the
+-- server decides about quiet comments within, the tokens that it reads in the query, with the lists
+-- in its places. `spliced_read`: the tokens that any honest server reads in the text. `list_on`:
+-- one list, read by itself.
 use Rattle.std.specs.Prelude.{Bool}
 use Rattle.std.proofs.Common.{◌≡◌, ◌++◌, ℕ, true, List, [], ◌∷◌, None, inl, inr, refl, ap, ◌∙◌, sym, subst, append-nil, true≢false}
 use Rattle.std.proofs.lemmas.Bool.{cases_Bool}
@@ -85,7 +85,7 @@ replaced_alike (read_skipped {ts = ts} tail q r) lists =
 replaced_alike (read_executed {us = us} tail q r) lists =
     ap (λ x. slash ∷ asterisk ∷ x) (replaced_row_text tail us lists ∙ ap (λ x. tail ++ x) (replaced_alike r lists))
 
--- ---- what the server makes of a quiet comment
+-- ---- a server's reading of a quiet comment
 
 comment_there : (server : Server) → IsHonest server → (tail rest : List ℕ) → IsQuietComment tail rest →
     IsBlockTail server tail rest → block_on server (tail ++ rest) ≡ comment
@@ -205,7 +205,7 @@ spliced_on server mode query ts us lists honest within h p s q u =
       each = places_on server honest within mode space r lists u.each h.each p s q;
     }
 
--- what an honest server reads of the text
+-- the tokens that an honest server reads in the text
 pub spliced_read : (server : Server) (mode : Bool) (ts vs : List Token) (lists : List (List Token)) →
     IsHonest server → AreTokensBefore mode [] ts → AreReadAlikeBefore [] ts →
     AtPlaces (IsSpliced mode) space ts lists → AtPlaces IsSettled space ts lists →
@@ -213,7 +213,7 @@ pub spliced_read : (server : Server) (mode : Bool) (ts vs : List Token) (lists :
 spliced_read server mode ts vs lists honest h p s q v =
     portable_read server mode (text_of (with_literal_tokens ts lists)) (with_literal_tokens ts lists) vs honest (record { text = refl; each = spliced_tokens mode space ts lists h s }) (spliced_portable mode space ts lists h p s q) v
 
--- one list, read alone
+-- one list, read by itself
 pub list_on : (server : Server) (mode : Bool) (text : List ℕ) (list : List Token) → IsTokens mode text list →
     AreSettledBefore [] list → IsReadOn server mode text list
 list_on server mode text list is q =

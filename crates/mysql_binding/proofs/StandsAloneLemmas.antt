@@ -14,7 +14,7 @@ last_stands test (x ∷ y ∷ xs) b e h =
     let n : length (x ∷ y ∷ xs) - 1 ≡ suc (length (y ∷ xs) - 1) = omega arith in
     last_stands test (y ∷ xs) b (subst (λ i. b ≡ get_or (x ∷ y ∷ xs) i b) n e) (omega arith)
 
--- ---- the position of what is found
+-- ---- the position of the place that is found
 
 pub choice : {A : Type 0} (b : Bool) (x y : Option A) (r : Option A) →
     (if b then x else y) ≡ r → ((b ≡ true) × (x ≡ r)) ⊎ ((b ≡ false) × (y ≡ r))

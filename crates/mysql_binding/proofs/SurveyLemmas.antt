@@ -20,8 +20,8 @@ use Rattle.mysql_binding.specs.TextLength.{pieces_len}
 use Rattle.mysql_binding.proofs.RenamedPlaceLemmas.{no_place_alone}
 use Rattle.mysql_binding.proofs.TextLengthLemmas.{plain_len, plain_len-place, plain_len-no_place, pieces_len-plain_len}
 
--- with those that are left, so many names and marks are those of the query, and what is found so
--- far, or else among them, is its first place that doesn't stand alone
+-- The names and marks so far, with those that are left, are those of the query. Its first place
+-- that doesn't stand alone is the one found so far, or else among those that are left.
 pub record SurveyedSoFar (reading : Reading) (query : List ℕ) (at name_count mark_count : ℕ) (not_alone : Option (ℕ × ℕ)) (piece_bytes : ℕ) : Type 0 where
   pub all : List Token
   pub tokens : IsTokensIn reading query all

@@ -1,4 +1,4 @@
--- What is known of a query that is surveyed, for its one list of tokens.
+-- The facts about a surveyed query, for its one list of tokens.
 use Rattle.std.proofs.Common.{◌≡◌, ◌≢◌, ◌++◌, ◌+◌, ◌<◌, ◌≤◌, ℕ, List, [], ◌∷◌, length, length-append, take, drop, sym, ap, ◌∙◌, subst, arith}
 use Rattle.std.specs.Prelude.{None, Ok, Err, IfOk, IsErrAnd, Result}
 use Rattle.std.proofs.Math.Seq.{take-append_seam}

@@ -1,4 +1,4 @@
--- What is promised of a text in a room that the caller lends.
+-- The promises about a text that is written into a slice of the caller.
 use Rattle.std.specs.Prelude.{Bool, Result, Ok, Err, IfOk, IfSome}
 use Rattle.std.proofs.Common.{◌≡◌, ℕ, List, [], ◌∷◌, Some, subst}
 use Rattle.mysql_values.specs.declared.value.Value.{Value}
@@ -20,7 +20,7 @@ use Rattle.mysql_binding.specs.declared.binding.room.TextInRoom.{TextInRoom}
 use Rattle.mysql_binding.specs.declared.binding.room.TextInRoom.TheVariants.{Written, TooShort}
 use Rattle.mysql_binding.proofs.BoundTextLemmas.{is_bound_text}
 
--- what is known of the literals of a form, as soon as the fields of the values are in range
+-- the facts about the literals of a form, as soon as the fields of the values are in range
 module _ (literal : Literals) (IsKnown : LiteralFacts) (known : (v : Value) (text : List ℕ) → FieldsInRange v → literal v ≡ Some text → IsKnown v text) where
   known_texts : (values : List Value) (texts : List (List ℕ)) → AreWrittenAs literal IsOfFields values texts → AreWrittenAs literal IsKnown values texts
   known_texts [] [] h = tt
@@ -40,7 +40,7 @@ module _ (literal : Literals) (IsKnown : LiteralFacts) (known : (v : Value) (tex
     };
   }
 
--- what a text in a room is, if it is so for each text
+-- a fact about each text is a fact about a text in a room
 pub each_in_room : (IsText IsOther : List ℕ → Type 0) (HasLength : ℕ → Type 0) (old new : List ℕ) (text : TextInRoom) →
     ((x : List ℕ) → IsText x → IsOther x) → ((len : ℕ) → HasLength len → HasTextOf IsOther len) →
     IsTextInRoom IsText HasLength old new text → IsTextInRoom IsOther (HasTextOf IsOther) old new text

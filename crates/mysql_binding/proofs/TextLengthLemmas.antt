@@ -56,7 +56,7 @@ pub literal_len-literal : (literal : Literals) (v : Value) (text : List ℕ) →
     literal_len literal v ≡ length text
 literal_len-literal literal v text e = ap (λ o. length (unwrap_or o [])) e
 
--- the length that is told of a literal
+-- the length that is reported for a literal
 pub length_or_zero : (o : Option (List ℕ)) →
     unwrap_or (option_map length o) 0 ≡ length (unwrap_or o [])
 length_or_zero None = refl

@@ -1,5 +1,7 @@
--- A text and the same up to a place, where another text follows instead, which opens nothing after the
--- byte before the place: what is a token and portable before the first is so before the second.
+-- A text and the same text up to a place, where another text follows instead, which opens nothing
+-- after the byte before the place. A token before the first is one before the second, and stays
+-- portable.
+-- second.
 use Rattle.std.specs.Prelude.{Bool}
 use Rattle.std.proofs.Common.{◌≡◌, ◌⊎◌, ◌++◌, ◌==◌, ◌&&◌, ◌||◌, not, ℕ, true, false, List, [], ◌∷◌, None, arith, inl, inr, refl, ap, ◌∙◌, sym, subst, true≢false}
 use Rattle.std.specs.Char.{is_ascii_digit}
@@ -59,7 +61,7 @@ place_byte b x p =
       | inr e ↦ inl (eqb-true b colon ((and_parts (b == colon) _ e).0))
     ]
 
--- ---- what a text begins with that opens nothing
+-- ---- the front of a text that opens nothing
 
 first_ways : (before b : ℕ) (bs : List ℕ) → opens_nothing_after before (b ∷ bs) ≡ true →
     ((joins_nothing b ≡ true) × ((is_start_byte b && before == colon) ≡ false))
@@ -217,7 +219,7 @@ tag_move (at_place {b = b} {x = x} p l) e =
     let q = or_parts (begins_place (b ∷ x)) (is_tag_byte b && begins_tag x) ((or_parts (b == dollar) (begins_place (b ∷ x) || (is_tag_byte b && begins_tag x)) e).1) in
     absurd (true≢false (sym p ∙ q.0))
 
--- dashes in place of an exponent, by how many of their three bytes stand before the splice
+-- dashes in place of an exponent, by the number of their three bytes before the splice
 dashes_at : (before : ℕ) (y : List ℕ) → opens_nothing_after before y ≡ true → begins_dashes y ≡ false
 dashes_at before [] l = refl
 dashes_at before (a ∷ []) l = refl
@@ -304,7 +306,7 @@ portable_move before (Name name) a p = p
 portable_move before Mark a p = p
 portable_move before (Plain b) a p = ap not (plain_move b a (not-true _ p))
 
--- ---- no `--` and newline come to stand at a splice
+-- ---- no `--` and newline meet at a splice
 
 pub empty_move : {before : ℕ} {x y : List ℕ} → SameUpToSplice before x y → (more : List ℕ) → dash ∷ newline ∷ more ≡ y →
     (less : List ℕ) × (dash ∷ newline ∷ less ≡ x)

@@ -24,8 +24,8 @@ use Rattle.mysql_binding.proofs.PieceLemmas.{bound_none, joined_text-pieces_from
 use Rattle.mysql_binding.proofs.TextLengthLemmas.{plain_len, plain_len-place, plain_len-no_place, pieces_len-plain_len, lens_left, literal_len-literal}
 use Rattle.mysql_binding.proofs.ValueLiteralLemmas.{AreWrittenAs-push, as_many_texts, no_float}
 
--- the literals of the first so many values stand in the text, and whatever stands in the places that
--- are left, it will follow them
+-- The literals of the first `i` values are in the text. Whatever literals are put in the places
+-- that are left, they will follow.
 pub record WrittenSoFar (reading : Reading) (literal : Literals) (IsKnown : LiteralFacts) (query rest : List ℕ) (values : List Value) (i : ℕ) (text : List ℕ) (len : ℕ) : Type 0 where
   pub all : List Token
   pub tokens : IsTokensIn reading query all
@@ -37,7 +37,7 @@ pub record WrittenSoFar (reading : Reading) (literal : Literals) (IsKnown : Lite
   pub written : AreWrittenAs literal IsKnown (take i values) literals
   pub no_float_left : first_float_from i (drop i values) ≡ None
   pub text_is : (more : List (List ℕ)) → text ++ bound left more ≡ bound all (literals ++ more)
-  -- with what is left, the whole text has this length
+  -- the whole text, with the rest, has this length
   pub len_is : length text + (plain_len left + sum_by (literal_len literal) (drop i values)) ≡ len
 
 pub written_none : (reading : Reading) (literal : Literals) (IsKnown : LiteralFacts) (query : List ℕ) (values : List Value) (lens text : List ℕ) (len : ℕ) →
@@ -145,7 +145,7 @@ module _ (reading : Reading) (literal : Literals) (IsKnown : LiteralFacts) (quer
             );
       }
 
-  -- once all values are written, the rest is what is missing of the text
+  -- once all values are written, the rest of the query is the missing part of the text
   pub rest_fits : length values ≤ i → length text + length rest ≡ len
   rest_fits done =
       let none : place_count s.left ≡ 0 = omega (arith, s.places_left, done) in

@@ -21,7 +21,7 @@ returns-clause-text g c = λ reading own.
     c.fill_spans.new.room c.args.room.now (omega (arith, c.if-room-len.false)) (omega (arith, c.fill_spans.auto.room, c.if-room-len.false, length-take-le c.in_ok-measured.measured.len c.args.room.now (omega (arith, c.if-room-len.false))))
     (own_given_text c.args.spanned.now.survey c.args.spanned.now.spans.now reading c.args.spanned.now.query.now own (g.F.LiteralForm.literal c.args.form.now) (g.F.LiteralForm.IsKnown c.args.form.now) (given_by_borrowed c.args.params) c.in_ok-measured.measured c.fill_spans.new.room (c.in_ok-measured.ensures.measured reading own) c.fill_spans.ensures)
 
--- an error that is handed on is the same of whatever would be there without it
+-- an error that is passed on is the same, whatever the result would be without it
 same_error : {T U E : Type 0} → (r : Result U E) (e f : E) → IsErrAnd r (λ t. t ≡ e) → ◌≡◌ {A = Result T E} (Err e) (Err f) → ◌≡◌ {A = Result U E} r (Err f)
 same_error (Ok a) e f is h = absurd is
 same_error (Err t) e f is h =

@@ -8,7 +8,7 @@ invariant_of-result c = record {
   parsed = rw (c.new-surveyed.ensures.query, c.new-surveyed.ensures.reading) at (is_parsed _ _ _ _ c.new-surveyed.result.surveyed c.in_ok-places.ensures.places);
 }
 
--- what holds is what an error tells
+-- a fact that holds also holds if there is an error
 on_error : {A E P : Type 0} (r : Result A E) → P → OnErr r P
 on_error (Ok a) p = tt
 on_error (Err e) p = p
