@@ -1,7 +1,6 @@
 -- A text and the same text up to a place, where another text follows instead, which opens nothing
 -- after the byte before the place. A token before the first is one before the second, and stays
 -- portable.
--- second.
 use Rattle.std.specs.Prelude.{Bool}
 use Rattle.std.proofs.Common.{◌≡◌, ◌⊎◌, ◌++◌, ◌==◌, ◌&&◌, ◌||◌, not, ℕ, true, false, List, [], ◌∷◌, None, arith, inl, inr, refl, ap, ◌∙◌, sym, subst, true≢false}
 use Rattle.std.specs.Char.{is_ascii_digit}

@@ -13,7 +13,7 @@ use Rattle.mysql_named_params.proofs.TokensExistLemmas.{tokens_exist}
 use Rattle.mysql_named_params.proofs.TokenRowLemmas.{place_count-sum}
 use Rattle.mysql_named_params.proofs.FoundPlaceLemmas.{parted, names_at_name, marks_at_name, names_at_mark, marks_at_mark}
 
--- with those that are left, so many names and marks are those of the query
+-- the names and marks so far, with those that are left, are those of the query
 pub record CountedSoFar (mode : Bool) (query rest : List ℕ) (name_count mark_count : ℕ) : Type 0 where
   pub all : List Token
   pub tokens : IsTokens mode query all

@@ -27,15 +27,15 @@ use Rattle.mysql_named_params.proofs.TokensExistLemmas.{tokens_exist}
 use Rattle.mysql_named_params.proofs.ReadingLemmas.{read_with, tokens_read}
 use Rattle.mysql_named_params.proofs.WidePlaceLemmas.{opened, not_opened}
 
--- no place stands before this index, at which a token of the grammar begins, or the end is
+-- no place comes before this index, at which a token of the grammar begins, or the text ends
 pub record HasNoPlaceBefore (reading : Reading) (text : List ℕ) (at : ℕ) : Type 0 where
-  -- the tokens of the grammar, and of these what stands from the index on
+  -- the tokens of the grammar, and those of them from the index on
   pub all : List Token
   pub tokens : IsTokens reading.no_backslash_escape text all
   pub back : List Token
   pub each : AreTokensBefore reading.no_backslash_escape [] back
   pub back_text : text_of back ≡ drop at text
-  -- what is read before the index
+  -- the tokens that are read before the index
   pub front : List Token
   pub split : read_with reading.wide_names all ≡ front ++ read_with reading.wide_names back
   pub no_place : place_count front ≡ 0

@@ -11,7 +11,7 @@ use Rattle.mysql_named_params.specs.TokensOf.{not_plain_at}
 use Rattle.mysql_named_params.proofs.TokenEnds.{plain_at}
 use Rattle.mysql_named_params.proofs.TokenEndLemmas.{slice_from}
 
--- a token before what follows it is the front
+-- a token before the text that follows it is the front
 pub whole : (mode : Bool) (t : Token) (text after : List ℕ) (n : ℕ) → bytes_of t ++ after ≡ text →
     length (bytes_of t) ≡ n → IsToken mode t after → IsFirstToken mode text (kind_of t) n
 whole mode t text after n e len holds =

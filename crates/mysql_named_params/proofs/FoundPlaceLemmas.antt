@@ -1,4 +1,5 @@
--- What the first place of a text says of its tokens: those before it, itself and those after it.
+-- The tokens of a text around its first place: those before it, the place itself, and those after
+-- it.
 use Rattle.std.specs.Prelude.{Bool}
 use Rattle.std.proofs.Common.{◌≡◌, ℕ, ◌+◌, ◌<◌, ◌≤◌, List, [], ◌∷◌, ◌++◌, length, take, drop, Some, refl, sym, ap, ◌∙◌, subst, arith, take_at, drop_at, length-append}
 use Rattle.std.proofs.lemmas.List.{nil_from_length, drop-drop}

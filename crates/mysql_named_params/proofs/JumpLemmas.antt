@@ -78,7 +78,7 @@ run_from_front w ws text n le none =
     let start : IsNotReached (w ∷ ws) text 0 = omega arith in
     subst (IsNotReached (w ∷ ws) text) same (run_over w ws text 0 n (omega arith) (λ k low high. none k low (omega arith)) start)
 
--- a star after which another byte stands
+-- a star before another byte
 pub no_slash_after : (text : List ℕ) (at : ℕ) → at + 1 < length text → get_or text (at + 1) 0 ≢ slash →
     IsNotReached (asterisk ∷ slash ∷ []) text at → IsNotReached (asterisk ∷ slash ∷ []) text (at + 1)
 no_slash_after text at lt n =
@@ -152,7 +152,7 @@ word_missing text word some f =
     let nothing : len_up_to word (drop (length text) text) ≡ 0 = ap (len_up_to word) (drop_all (length text) text (omega arith)) in
     up_to_at word text (length text) some (omega (arith, after, nothing))
 
--- the first place of a byte is that of the word of this byte alone
+-- the first place of a byte is that of the word that has only this byte
 finds_byte : (text : List ℕ) (b : ℕ) (r : Option ℕ) → IsFirstByte (is_byte b) text r →
     FindsNeedle text (b ∷ []) 0 r
 finds_byte text b r h =

@@ -1,4 +1,4 @@
--- A token sees no more of what follows it than `looks_at` says.
+-- A token sees no more of the text after it than `looks_at` says.
 use Rattle.std.proofs.Common.{◌≡◌, ◌==◌, ℕ, Bool, false, List, [], ◌∷◌, take, inl, inr, refl, ap, ◌∙◌, sym, None}
 use Rattle.std.proofs.lemmas.Bool.{cases_Bool}
 use Rattle.mysql_named_params.specs.Bytes.{backquote, colon, dash, hash, question_mark, slash, is_name_byte, is_start_byte, is_string_quote, begins}

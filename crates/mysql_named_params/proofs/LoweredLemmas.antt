@@ -1,4 +1,4 @@
--- A query with its wide names in lower case: its tokens, and what is written so far.
+-- A query with its wide names in lower case: its tokens, and the text that is written so far.
 use Rattle.std.specs.Prelude.{Bool}
 use Rattle.std.specs.Char.{to_ascii_lowercase}
 use Rattle.std.specs.List.{list_all, list_any}
@@ -64,7 +64,7 @@ no_name_byte q h = grind (arith, nat_tests)
 not_wide_no_name : (b : ℕ) → is_wide_byte b ≡ false → is_name_byte b ≡ false
 not_wide_no_name b h = grind (arith, nat_tests)
 
--- what follows a wide name doesn't continue it
+-- the text after a wide name doesn't continue it
 name_ends : (mode : Bool) (ts : List Token) → AreTokensBefore mode [] ts →
     begins is_name_byte (text_of (lower_names (widened_from true ts))) ≡ false
 name_ends mode [] h = refl
@@ -105,9 +105,9 @@ lowered_len (Name name ∷ ts) =
 lowered_len (t ∷ ts) =
     omega (arith, lowered_len ts, length-append (bytes_of t) (text_of ts), length-append (bytes_of t) (text_of (lower_names ts)))
 
--- ---- what is written so far
+-- ---- the text that is written so far
 
--- before the index stands the query in lower case, and from it on the query as it is
+-- before the index is the query in lower case, and from it on the query as it is
 pub record LoweredSoFar (reading : Reading) (query : List ℕ) (at : ℕ) (text : List ℕ) : Type 0 where
   pub all : List Token
   pub tokens : IsTokensIn reading query all

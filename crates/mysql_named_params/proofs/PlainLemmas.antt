@@ -78,7 +78,7 @@ not_plain_found mode (b ∷ bs) t e =
     (λ h. cond_some (b == question_mark) _ _ t _ (λ h f. token_found mode _ _ t (bs, tt, ap (λ x. x ∷ bs) (sym (eqb-true b question_mark h))) f) (λ h f. cc)))))))
     e
 
--- a plain token stands only if none is computed
+-- a token is plain only if no other is computed
 pub plain_none : (mode : Bool) (b : ℕ) (rest : List ℕ) → IsToken mode (Plain b) rest →
     not_plain_at mode (b ∷ rest) ≡ None
 plain_none mode b rest h = go (not_plain_at mode (b ∷ rest)) refl

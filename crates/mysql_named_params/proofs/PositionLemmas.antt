@@ -13,7 +13,7 @@ length-positions_from at (Name name ∷ ts) = omega (arith, length-positions_fro
 length-positions_from at (Mark ∷ ts) = omega (arith, length-positions_from (at + length (bytes_of Mark)) ts)
 length-positions_from at (t ∷ ts) = length-positions_from (at + length (bytes_of t)) ts
 
--- what ascends from a number ascends from a smaller one
+-- a list that ascends from a number ascends from a smaller one
 AscendFrom-weaker : (m n : ℕ) (ns : List ℕ) → m ≤ n → AscendFrom n ns → AscendFrom m ns
 AscendFrom-weaker m n [] le h = tt
 AscendFrom-weaker m n (k ∷ ns) le h =

@@ -55,7 +55,7 @@ reading_text reading query ts is =
 
 -- ---- the tokens after some
 
--- these tokens are what is read of others, each of which is a token before those after it
+-- these tokens are read from others, each of which is a token before those after it
 abbrev AreReadOf : (mode : Bool) → List Token → Type 0
 AreReadOf mode ts = (own : List Token) × (ts ≡ widened own) × AreTokensBefore mode [] own
 

@@ -1,4 +1,4 @@
--- What renaming has done so far.
+-- The state of renaming so far.
 use Rattle.std.specs.Prelude.{Bool}
 use Rattle.std.proofs.Common.{◌≡◌, ◌≢◌, ◌⊎◌, inl, inr, ℕ, ◌+◌, ◌≤◌, List, [], ◌∷◌, ◌++◌, length, take, drop, map, All, Some, refl, sym, ap, ◌∙◌, subst, arith, append_assoc, append-nil, take_at, drop_at}
 use Rattle.std.specs.Cow.{cow_slice_items, IsBorrowedSlice}
@@ -19,7 +19,7 @@ use Rattle.mysql_named_params.proofs.TokenListLemmas.{one_token_list}
 use Rattle.mysql_named_params.proofs.TokenRowLemmas.{text_of-append, AreTokensBefore-after, names-append, marks-append, with_marks-append, with_marks-nameless, place_count-sum}
 use Rattle.mysql_named_params.proofs.FoundPlaceLemmas.{IsPartedIn, parted, names-no_place, names_at_name, marks_at_name, marks_at_mark}
 
--- what is renamed, with what is left of a query
+-- the part that is renamed, with the rest of a query
 pub record RenamedSoFar {Z : Type 0} (mode : Bool) (query rest text : List ℕ) (params : List (CowSlice ℕ Z)) : Type 0 where
   pub all : List Token
   pub tokens : IsTokens mode query all

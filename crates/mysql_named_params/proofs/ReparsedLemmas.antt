@@ -1,4 +1,4 @@
--- What is read when the query with a mark in place of each name is read again.
+-- The tokens of the query with a mark in place of each name, and its parsed form.
 use Rattle.std.specs.Prelude.{Bool}
 use Rattle.std.proofs.Common.{◌≡◌, ◌≢◌, ◌+◌, ◌∙◌, ℕ, true, false, All, List, [], ◌∷◌, append-nil, length, arith, inl, refl, sym, ap, subst}
 use Rattle.std.proofs.lemmas.List.Elements.{All-nil, All-cons}

@@ -160,7 +160,7 @@ pub up_to-alike : (word bytes x y : List ℕ) → (Lacks word bytes → x ≡ []
 up_to-alike word bytes x y f (up_to_word body e ends) = up_to_word body e ends
 up_to-alike word bytes x y f (up_to_end lacks e) = up_to_end lacks (f lacks e)
 
--- what tells a comment from an executed text stands in the comment, or nowhere
+-- the bytes that distinguish a comment from an executed text are in the comment, or nowhere
 pub block-alike : (tail x y : List ℕ) → (Lacks (asterisk ∷ slash ∷ []) tail → x ≡ [] → y ≡ []) →
     IsUpTo (asterisk ∷ slash ∷ []) tail x → begins is_extension (tail ++ x) ≡ false →
     begins is_extension (tail ++ y) ≡ false
@@ -172,7 +172,7 @@ block-alike [] x y f (up_to_word body e ends) h = absurd (no_end body e)
     no_end (b ∷ body) e = cc
 block-alike [] x y f (up_to_end lacks e) h = rw (f lacks e) refl
 
--- a token that is no place, before what the rest becomes
+-- a token that isn't a place stays one before the text that the rest becomes
 pub IsToken-move : (mode : Bool) (t : Token) (x y : List ℕ) → (IsPlace t → ⊥) → SameUpToPlace x y →
     IsToken mode t x → IsToken mode t y
 IsToken-move mode (QuotedString quote tail) x y n a h = (h.0, string-alike mode quote tail x y (λ lacks. same-end a) h.1)

@@ -7,7 +7,7 @@ use Rattle.mysql_named_params.specs.Tokens.{IsStringTail}
 use Rattle.mysql_named_params.specs.TokensOf.{string_len}
 use Rattle.mysql_named_params.proofs.TokenEndLemmas.{string_at, string_stops, string_goes_on, string_skips, string_ends}
 
--- so many bytes of the string are passed, and the next one is not escaped
+-- the bytes of the string up to this index are passed, and the next one isn't escaped
 abbrev pub IsWithin : Bool → ℕ → List ℕ → ℕ → Type 0
 IsWithin mode q text at =
     (at ≤ length text) × (at + string_len mode q false (drop at text) ≡ string_len mode q false text)

@@ -1,4 +1,5 @@
--- What is known of a query before it is renamed: whether it has names and marks, and where they begin.
+-- The facts about a query before it is renamed: whether it has names and marks, and where they
+-- begin.
 use Rattle.std.specs.Prelude.{Bool, ◌↔◌, None}
 use Rattle.std.proofs.Common.{◌≡◌, ℕ, ◌<◌, ◌≤◌, ◌==◌, ltb, true, false, not, List, [], ◌∷◌, length, drop, get_or, refl, sym, ap, ◌∙◌, subst, arith, inl, inr, append-nil, true≢false}
 use Rattle.std.specs.List.{list_all}

@@ -1,4 +1,4 @@
--- What `TokensOf` computes is what the grammar says.
+-- `TokensOf` computes the tokens of the grammar.
 use Rattle.std.proofs.Common.{◌≡◌, ◌≢◌, ℕ, zero, suc, ◌+◌, ◌-◌, ◌<◌, ◌≤◌, get_or, eq-eqb, Bool, true, false, ◌==◌, ◌&&◌, nat_eq, List, [], ◌∷◌, ◌++◌, length, take, drop, refl, sym, ap, ◌∙◌, subst, inl, inr, arith, append_assoc, length-append, ne_eqb, true≢false, take_at, take-append-drop}
 use Rattle.std.specs.List.{starts_with}
 use Rattle.std.proofs.lemmas.List.{drop_more, drop_all, take_rest}
@@ -141,7 +141,7 @@ name_run text i (suc n) le each inv =
     let same : i + 1 + n ≡ i + suc n = omega arith in
     subst (λ k. k + name_len (drop k text) ≡ name_len text) same (name_run text (i + 1) n (omega arith) (λ k low high. each k (omega arith) (omega arith)) step)
 
--- where the name bytes end that stand before this index, and it isn't one of a name or the end
+-- the end of the name bytes before this index, which is the end of the text or the index of another
 pub name_to_end : (text : List ℕ) (i : ℕ) → i ≤ length text → EachPasses is_name_byte text 0 i →
     (i < length text → is_name_byte (get_or text i 0) ≡ false) → IsNameFront (take i text) (drop i text)
 name_to_end text i le each stops =

@@ -6,7 +6,7 @@ use Rattle.mysql_named_params.specs.Tokens.{Token, bytes_of, IsNotPlain, IsToken
 use Rattle.mysql_named_params.specs.TokensOf.{not_plain_at}
 use Rattle.mysql_named_params.proofs.TokenEnds.{not_plain_at_is}
 
--- what a token is, if it is no plain one
+-- a token is plain, or one of the others
 not_plain_or_plain : (mode : Bool) (t : Token) (r : List ℕ) → IsToken mode t r →
     IsNotPlain mode t r ⊎ ((b : ℕ) × (t ≡ Plain b))
 not_plain_or_plain mode (Plain b) r h = inr (b, refl)

@@ -18,7 +18,7 @@ token_of_not_plain mode (BlockComment tail) r h = h
 token_of_not_plain mode (Name name) r h = h
 token_of_not_plain mode Mark r h = h
 
--- the token that is computed stands at the front of the text
+-- the token that is computed is at the front of the text
 token_right : (mode : Bool) (b : ℕ) (bs : List ℕ) → (after : List ℕ)
     × (bytes_of (token_at mode b bs) ++ after ≡ b ∷ bs) × IsToken mode (token_at mode b bs) after
 token_right mode b bs = of_search (not_plain_at mode (b ∷ bs)) refl
@@ -48,7 +48,7 @@ within_right mode (item ∷ items) (b ∷ bs) le =
       each = (subst (IsToken mode t) (sym rest.text) first.2, rest.each);
     })
 
--- what is computed are the tokens
+-- the list that is computed is that of the tokens
 pub tokens_right : (mode : Bool) (query : List ℕ) → IsTokens mode query (tokens_of mode query)
 tokens_right mode query = within_right mode query query (omega arith)
 

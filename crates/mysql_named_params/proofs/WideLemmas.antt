@@ -19,7 +19,7 @@ after_run (t ∷ ts) = t ∷ ts
 
 -- ---- a plain token
 
--- what becomes of a plain token before these tokens
+-- the cases of a plain token before these tokens
 pub data PlainCase (inside : Bool) (b : ℕ) (ts : List Token) : Type 0 where
   -- a wide name before it has it too
   goes_on : inside ≡ true → is_wide_byte b ≡ true →
@@ -164,7 +164,7 @@ names_from mode inside (t ∷ ts) h = names_from mode false ts h.1
 
 -- ---- tokens that stay
 
--- if no run stands in front, it makes no difference what stands before
+-- if no run is at the front, the text before makes no difference
 pub no_run : (ts : List Token) → continues_wide ts ≡ false →
     (run ts ≡ []) × (widened_from true ts ≡ widened_from false ts)
 no_run [] h = (refl, refl)

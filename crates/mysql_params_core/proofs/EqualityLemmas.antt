@@ -1,4 +1,4 @@
--- Parameters are equal if and only if what they give is.
+-- Parameters are equal if and only if the values that they give are equal.
 use Rattle.std.proofs.Common.{◌≡◌, ℕ, Bool, true, List, refl, sym, ap, subst, ◌∙◌, rules}
 use Rattle.std.specs.Prelude.{Option, Some, None, nat_eq}
 use Rattle.std.specs.Bool.{Decides}
@@ -38,7 +38,7 @@ abbrev pub key_eq : Vec ℕ → Vec ℕ → Bool
 key_eq x y = pointwise nat_eq x.items y.items
 
 module _ (es fs : List (Vec ℕ × Value)) where
-  -- what agrees at each key agrees at all bytes
+  -- maps that agree at each key agree at all bytes
   module _ (h : (k : Vec ℕ) → lookup (key_eq k) es ≡ lookup (key_eq k) fs) where
     from_key : (q : List ℕ) (k : Vec ℕ) → has_bytes q k ≡ true
         → lookup (has_bytes q) es ≡ lookup (has_bytes q) fs

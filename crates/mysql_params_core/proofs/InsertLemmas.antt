@@ -1,5 +1,5 @@
--- To insert into a hash map is to insert into the finite map that it stands for: what a search by a
--- name finds then, and that of values.
+-- An insertion into a hash map is an insertion into the finite map that it represents: the result
+-- of a search by a name after it, and that of values.
 use Rattle.std.proofs.Common.{◌≡◌, ℕ, Bool, true, false, cond, List, refl, sym, ap, ◌∙◌}
 use Rattle.std.specs.Prelude.{Some, nat_eq}
 use Rattle.std.specs.Global.{Vec}

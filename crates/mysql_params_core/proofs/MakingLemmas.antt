@@ -20,7 +20,7 @@ pub list_made-nonempty : (ms : List Meaning) → 0 < length ms → list_made ms 
 list_made-nonempty [] h = absurd (omega arith)
 list_made-nonempty (m ∷ ms) h = refl
 
--- a `?` hands on the error as it is
+-- a `?` passes the error on as it is
 pub error_is_handed_on : {A Seen : Type 0} (seen : A → Seen) (m : Result Seen ToParamsRefusal) (r : Result A ToParamsError)
     (e : ToParamsError) → IsErrAnd r (λ t. t ≡ e) → IsExpectedRefusal m ⊤ (to_params_refusal e)
     → IsAnswer seen to_params_refusal m ⊤ r
@@ -41,7 +41,7 @@ module _ {S A : Type 0} (g : Result S ToParamsRefusal → A → Result S ToParam
   refusal_stays e rs = refusal_expected_too start (fold g start rs) ⊤ ⊤ (to_params_refusal e)
       (λ why refused. ap (λ s. fold g s rs) refused ∙ fold-refused why rs) (λ _. tt)
 
-  -- x is the argument at i of the list xs, and f what is known of an argument
+  -- x is the argument at i of the list xs, and f the fact that is known about an argument
   module _ {X : Type 0} (f : X → A) (xs : List X) (i : ℕ) (x : X) (h : i < length xs) (is : x ≡ get_or xs i x) where
     within_map : i < length (map f xs)
     within_map = omega (arith, length-map xs f)
@@ -65,7 +65,7 @@ module _ {S A : Type 0} (g : Result S ToParamsRefusal → A → Result S ToParam
         ∙ ap (λ r. fold g r (drop (i + 1) (map f xs))) (fold-take-next old before ∙ refused)
         ∙ fold-refused e (drop (i + 1) (map f xs))
 
-    -- a `?` in the walk hands on the error of that argument
+    -- a `?` in the walk passes on the error of that argument
     pub refusal_is_handed_on : (by : Result S ToParamsRefusal → Made) → ((e : ToParamsRefusal) → by (Err e) ≡ Err e)
         → (old : Result S ToParamsRefusal) (e : ToParamsError) → fold g start (take i (map f xs)) ≡ old
         → IsExpectedRefusal (g old (f x)) ⊤ (to_params_refusal e)

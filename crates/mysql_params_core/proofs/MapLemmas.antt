@@ -12,14 +12,14 @@ use Rattle.std.specs.Map.{lookup}
 use Rattle.mysql_value_core.specs.declared.value.Value.{Value}
 use Rattle.mysql_params_core.specs.Given.{by_bytes, value_map}
 
--- a search by the names' order finds what a search by their bytes finds
+-- a search by the order of the names has the same result as a search by their bytes
 find-lookup : (es : List (Vec ℕ × Value)) (q : List ℕ) → find (slice_cmp nat_cmp) q (map by_bytes es) ≡ lookup (λ k. pointwise nat_eq q k.items) es
 find-lookup [] q = refl
 find-lookup (e ∷ es) q =
     ap (λ b. cond b (Some e.1) (find (slice_cmp nat_cmp) q (map by_bytes es))) (sym (lists_ties nat_cmp unsigned_ties q e.0.items))
     ∙ ap (cond (pointwise nat_eq q e.0.items) (Some e.1)) (find-lookup es q)
 
--- what the map has at a name
+-- the value of a name in the map
 pub get-value_map : (es : List (Vec ℕ × Value)) (q : List ℕ) → get (value_map es) q ≡ lookup (λ k. pointwise nat_eq q k.items) es
 get-value_map es q = get-from_entries nat_list_cmp_total _ q ∙ find-lookup es q
 

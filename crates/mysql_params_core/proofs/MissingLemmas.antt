@@ -20,7 +20,7 @@ module _ {X : Type 0} (p : X → Bool) where
   list_any-map f [] = refl
   list_any-map f (y ∷ ys) = ap (λ b. p (f y) || b) (list_any-map f ys)
 
-  -- whether the elements that pass are a prefix, if the first that fails stands at i
+  -- whether the elements that pass are a prefix, if the first that fails is at i
   pub is_prefix-at : (xs : List X) (i : ℕ) (d : X) → i < length xs → list_all p (take i xs) ≡ true
       → p (get_or xs i d) ≡ false → is_prefix p xs ≡ not (list_any p (drop (suc i) xs))
   is_prefix-at [] i d h all fails = absurd (omega arith)

@@ -1,5 +1,5 @@
--- Borrowed pairs: what is found among them, and that distinct ones make the map that they stand
--- for.
+-- Borrowed pairs: the result of a search in them, and that distinct pairs make the map that they
+-- represent.
 use Rattle.std.proofs.Common.{◌≡◌, ◌<◌, ◌≤◌, ◌+◌, ◌++◌, ℕ, true, false, List, [], ◌∷◌, length, map, take, drop, get_or, cond, refl, sym, ap, ◌∙◌}
 use Rattle.std.specs.Prelude.{Some, None, Ok, Err, Option, is_some, nat_eq, fold}
 use Rattle.std.specs.Borrow.{Bor}
@@ -17,7 +17,7 @@ use Rattle.mysql_params_core.specs.GivenBorrowed.{by_borrowed, pair_map}
 use Rattle.mysql_params_core.specs.Made.{with_pair, by_name, seen_pair, redefined, IsFirstRedefined}
 use Rattle.mysql_params_core.proofs.MakingLemmas.{fold-take-next, fold-refused_at}
 
--- what the first pair and those after it have under a name
+-- the value of a name in the first pair and those after it
 get-pair : (pair : Bor (List ℕ) × ValueRef) (pairs : List (Bor (List ℕ) × ValueRef)) (q : List ℕ)
     → get (pair_map (pair ∷ pairs)) q
     ≡ cond (pointwise nat_eq q pair.0.now) (Some (owned pair.1)) (get (pair_map pairs) q)
@@ -26,7 +26,7 @@ get-pair pair pairs q =
     ∙ ap (λ b. cond b (Some (owned pair.1)) (get (pair_map pairs) q))
     (sym (lists_ties nat_cmp unsigned_ties q pair.0.now))
 
--- what the pairs from an index on have under a name
+-- the value of a name in the pairs from an index on
 module _ (pairs : List (Bor (List ℕ) × ValueRef)) (i : ℕ) (d : Bor (List ℕ) × ValueRef) (q : List ℕ)
     (below : i < length pairs) where
   get-pairs_from : get (pair_map (drop i pairs)) q
@@ -43,7 +43,7 @@ module _ (pairs : List (Bor (List ℕ) × ValueRef)) (i : ℕ) (d : Bor (List �
       get-pairs_from
       ∙ ap (λ b. cond b (Some (owned (get_or pairs i d).1)) (get (pair_map (drop (i + 1) pairs)) q)) same
 
-  -- what those after it have, otherwise
+  -- the value of a name in those after it, otherwise
   pub get-pairs_after : pointwise nat_eq q (get_or pairs i d).0.now ≡ false
       → get (pair_map (drop i pairs)) q ≡ get (pair_map (drop (i + 1) pairs)) q
   get-pairs_after other =

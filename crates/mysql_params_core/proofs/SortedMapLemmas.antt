@@ -13,7 +13,7 @@ use Rattle.mysql_params_core.proofs.EqualityLemmas.{key_eq}
 use Rattle.mysql_params_core.proofs.InsertLemmas.{value_map-insert}
 use Rattle.mysql_params_core.proofs.MapLemmas.{get-value_map}
 
--- what the map has at a name
+-- the value of a name in the map
 pub get-sorted : (es : List (Vec ℕ × Value)) (q : List ℕ) → get (value_map es) q ≡ lookup (λ k. is_eq (slice_cmp nat_cmp q k.items)) es
 get-sorted es q = get-value_map es q ∙ (λ i. lookup (λ k. lists_ties nat_cmp unsigned_ties q k.items i) es)
 

@@ -1,5 +1,5 @@
--- Borrowed pairs in a sorted map: what is found in it, and that to insert into it is to insert into
--- the finite map that it stands for.
+-- Borrowed pairs in a sorted map: the result of a search in it, and that an insertion into it is an
+-- insertion into the finite map that it represents.
 use Rattle.std.proofs.Common.{◌≡◌, ◌<◌, ◌≤◌, ◌+◌, ℕ, Bool, true, false, cond, List, [], ◌∷◌, length, map, take, drop, get_or, refl, sym, ap, ◌∙◌}
 use Rattle.std.specs.Prelude.{Some, None, Ok, Option, fold, is_some}
 use Rattle.std.specs.Option.{option_map}
@@ -22,7 +22,7 @@ owned_cond : (b : Bool) (value : ValueRef) (other : Option ValueRef)
 owned_cond true value other = refl
 owned_cond false value other = refl
 
--- what a search by the names' order finds
+-- the result of a search by the order of the names
 pub get-sorted_pairs : (pairs : List (Bor (List ℕ) × ValueRef)) (q : List ℕ)
     → get (pair_map pairs) q ≡ option_map owned (lookup (λ k. is_eq (slice_cmp nat_cmp q k.now)) pairs)
 get-sorted_pairs [] q = get-empty (slice_cmp nat_cmp) q
@@ -84,7 +84,7 @@ asked_of_insert entries name old is =
 
 -- ---- a walk that inserts each pair
 
--- the map of the pairs so far, of which none stands twice
+-- the map of the pairs so far, all of which have different names
 abbrev pub IsDistinctSoFar : List (Bor (List ℕ) × ValueRef) → ℕ → List (Bor (List ℕ) × ValueRef) → Type 0
 IsDistinctSoFar pairs i entries =
     (fold with_pair (Ok empty) (take i (map seen_pair pairs)) ≡ Ok (pair_map (take i pairs)))

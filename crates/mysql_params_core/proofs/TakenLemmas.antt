@@ -14,7 +14,7 @@ use Rattle.mysql_params_core.proofs.EqualityLemmas.{has_bytes, key_eq}
 use Rattle.mysql_params_core.proofs.MapLemmas.{get-value_map}
 use Rattle.mysql_params_core.proofs.WalkLemmas.{values_step}
 
--- what the map had at a name is still in it, or in the list, at the index of the name
+-- the value that the map had at a name is still in it, or in the list, at the index of the name
 abbrev pub IsTaken : Option Value → Option Value → Option ℕ → List Value → Type 0
 IsTaken had left None values = left ≡ had
 IsTaken had left (Some index) values =
@@ -96,7 +96,7 @@ module _ (had left : List (Vec ℕ × Value)) (indices : List (Vec ℕ × ℕ)) 
           by_key true e gone placed = rw placed (gone, omega (arith, length-append vs (v ∷ [])), slice_get-append-length vs v ∙ sym (had_at q e))
           by_key false e kept placed = rw (placed, kept) (IsTaken-push _ _ (lookup (key_eq q) indices) vs v (taken q))
 
--- the walk so far: the values of the names, and where each stands
+-- the walk so far: the values of the names, and the index of each
 pub record IsWalked (had left : List (Vec ℕ × Value)) (indices : List (Vec ℕ × ℕ)) (vs : List Value) (ns : List (Vec ℕ)) (i : ℕ) : Type 0 where
   pub so_far : map (get (value_map had)) (take i (names_of ns)) ≡ map (λ x. Some x) vs
   pub taken : AreTaken had left indices vs

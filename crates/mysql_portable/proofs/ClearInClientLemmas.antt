@@ -1,4 +1,4 @@
--- A query that is clear in a client is portable there: no construct of a client stands in it.
+-- A query that is clear in a client is portable there: it has no construct of a client.
 use Rattle.std.specs.Prelude.{Bool, cond, not, codes, nat_le}
 use Rattle.std.proofs.Common.{◌≡◌, ◌==◌, ◌&&◌, ◌||◌, ℕ, true, false, List, [], ◌∷◌, ◌++◌, Some, None, refl, sym, ap, ◌∙◌, subst, arith, append-nil, true≢false}
 use Rattle.std.specs.List.{list_all, list_any}
@@ -117,7 +117,7 @@ not_joined_front : (ys : List ℕ) (before : ℕ) → is_clear_after true before
 not_joined_front [] before h = refl
 not_joined_front (y ∷ ys) before h = not_joined y ((step before y ys h).0.steady)
 
--- ---- what is found in a token
+-- ---- the construct that is found in a token
 
 in_quotes : (tail rest : List ℕ) (before : ℕ) → is_clear_after true before (tail ++ rest) ≡ true → found_in_quotes tail ≡ None
 in_quotes tail rest before h =

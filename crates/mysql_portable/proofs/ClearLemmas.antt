@@ -93,7 +93,7 @@ module _ (client : Bool) where
       let q = or_parts (is_in_doubt before b bs) (client && is_in_doubt_in_client b bs) (not-true _ p.0) in
       (no_doubt before b bs q.0, p.1)
 
-  -- what follows in a clear text is clear after some byte
+  -- the rest of a clear text is clear after some byte
   pub clear_rest : (xs ys : List ℕ) (before : ℕ) → is_clear_after client before (xs ++ ys) ≡ true →
       (last : ℕ) × (is_clear_after client last ys ≡ true)
   clear_rest [] ys before h = (before, h)
@@ -105,7 +105,7 @@ module _ (client : Bool) where
       let s = clear_step before b bs h in
       and_from _ _ s.0.steady (clear_is_steady b bs s.1)
 
-  -- ---- what begins in it
+  -- ---- the constructs that begin in it
 
   no_tag_front : (bs : List ℕ) → begins may_begin_tag bs ≡ false → begins_tag bs ≡ false
   no_tag_front [] h = refl
@@ -160,7 +160,7 @@ module _ (client : Bool) where
   no_block_front (b ∷ bs) h =
       ap (λ x. cond x (Some (special_construct bs)) None) (and_shorter (b == asterisk) (begins_special bs) (not (is_quiet bs)) h)
 
-  -- no backslash stands before a backquote
+  -- no backslash is before a backquote
   no_escape : (before : ℕ) (bs : List ℕ) (n : ℕ) → is_clear_after client before bs ≡ true → escapes_backquote (take n bs) ≡ false
   no_escape before bs zero h = refl
   no_escape before [] (suc n) h = refl
@@ -169,7 +169,7 @@ module _ (client : Bool) where
       let no_backslash : (b == byte "\\") ≡ false = not-true _ (and_parts (nat_lt b 128) _ s.0.steady).1 in
       false_if (not (b == backquote)) _ (λ e. neither _ _ (ap (λ x. x && begins (λ c. c == backquote) (take n bs)) no_backslash) (no_escape b bs n s.1))
 
-  -- no carriage return stands before anything but a newline
+  -- no carriage return is before anything except a newline
   no_return_in : (before : ℕ) (bs : List ℕ) → is_clear_after client before bs ≡ true → holds_return bs ≡ false
   no_return_in before [] h = refl
   no_return_in before (b ∷ bs) h =
@@ -185,7 +185,7 @@ module _ (client : Bool) where
   none_of a q r true d k t f e block pa pq pr slash q1 q2 q3 q4 q5 = rw (pa, pq, pr) (slash refl)
   none_of a q r false d k t f e block pa pq pr slash q1 q2 q3 q4 q5 = rw (pa, pq, pr, q1, q2, q3, q4, q5) refl
 
-  -- no construct begins with the first byte, if no quote stands inside of a text in `"`, and no
+  -- no construct begins with the first byte, if no quote is inside of a text in `"`, and no
   -- carriage return in a comment of one line
   none_at_front : (before b : ℕ) (bs : List ℕ) (len : ℕ) → is_clear_after client before (b ∷ bs) ≡ true →
       (b == double_quote && stands_inside double_quote (take (len - 1) bs)) ≡ false →

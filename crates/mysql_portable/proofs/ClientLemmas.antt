@@ -18,7 +18,7 @@ use Rattle.mysql_portable.proofs.QuietLemmas.{portable_read, read_text}
 
 -- ---- openers
 
--- an opener stands in the comment, or nowhere
+-- an opener is in the comment, or nowhere
 pub opener_in_front : (tail rest : List ℕ) → IsUpTo (asterisk ∷ slash ∷ []) tail rest →
     holds_opener (tail ++ rest) ≡ holds_opener tail
 opener_in_front tail rest (up_to_end lacks e) = rw e (ap holds_opener (append-nil tail))
@@ -142,7 +142,7 @@ one_list_by client mode text ts us ht hu = one_cut_by client mode ts us ht.each 
 
 -- ---- if no comment holds an opener
 
--- the client isn't asked about what stands in the comment
+-- the client's own reading of the comment isn't used
 abbrev pub IsAskedNothing : Token → List ℕ → Type 0
 IsAskedNothing (BlockComment tail) rest =
     (begins_special (tail ++ rest) ≡ true) ⊎ (holds_opener (tail ++ rest) ≡ false)

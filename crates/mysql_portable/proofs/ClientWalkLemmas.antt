@@ -27,9 +27,9 @@ use Rattle.mysql_portable.specs.declared.portable.Construct.TheVariants as const
 use Rattle.mysql_portable.specs.declared.portable.Unportable.{Unportable}
 use Rattle.mysql_portable.proofs.FrontLemmas.{passes, unportable_at, front_is, quote_is}
 
--- ---- what is found at the front is said of its token
+-- ---- a construct that is found at the front is found in its token
 
--- what is said of both quotes is said of a quote
+-- a fact about both quotes is a fact about a quote
 of_quotes : (P : ℕ → Type 0) (q : ℕ) → is_string_quote q ≡ true → P single_quote → P double_quote → P q
 of_quotes P q h s d = go (quote_is q h)
   where
@@ -262,7 +262,7 @@ no_opener_in (Name name) rest ts s l e h = h
 no_opener_in Mark rest ts s l e h = h
 no_opener_in (Plain b) rest ts s l e h = h
 
--- what holds of tokens in which nothing is found
+-- the facts about tokens in which nothing is found
 pub record ClearParts (s l : Bool) (ts : List Token) : Type 0 where
   pub alike : AreReadAlikeBefore [] ts
   pub apart : JoinNoNumberBefore [] ts

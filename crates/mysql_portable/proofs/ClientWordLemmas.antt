@@ -1,5 +1,5 @@
--- A word of a client is told by its letters: two texts that begin with the same whole words begin with the
--- same words of a client.
+-- A word of a client is known by its letters: two texts that begin with the same whole words begin
+-- with the same words of a client.
 use Rattle.std.specs.Prelude.{Bool, codes, nat_le}
 use Rattle.std.proofs.Common.{◌≡◌, ◌==◌, ◌&&◌, ◌||◌, ◌∙◌, ℕ, true, List, if◌then◌else◌, refl, ap}
 use Rattle.std.specs.List.{list_all}

@@ -54,7 +54,7 @@ string_front q tail rest len h l = go (quote_is q h)
 
 -- ---- an identifier, and a comment of one line
 
--- a test of what follows the first byte
+-- a test of the text after the first byte
 one_test : (t : Bool) (c : Construct) → ◌≡◌ {A = Option Construct} (cond t (Some c) None) (cond (not t && true) None (Some c))
 one_test true c = refl
 one_test false c = refl
@@ -231,7 +231,7 @@ plain_front mode b rest n =
     rw (no_double_quote mode b rest n, and_right (b == backquote) false refl, and_right (b == hash || b == dash) false refl) refl in
     quote ∙ byte_front b rest (λ e. slash_block mode b rest e n)
 
--- what is found at the front of a text
+-- the construct that is found at the front of a text
 pub front_is : (mode : Bool) (t : Token) (rest : List ℕ) → IsToken mode t rest →
     front_construct (bytes_of t ++ rest) (length (bytes_of t)) ≡ unportable_at t rest
 front_is mode (QuotedString quote tail) rest h = string_front quote tail rest (length (quote ∷ tail)) h.0 (omega arith)

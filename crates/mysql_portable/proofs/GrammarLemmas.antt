@@ -24,7 +24,7 @@ found_on : (server : Server) (mode : Bool) (text : List ℕ) (u t : Token) → B
     Some u ≡ Some t → BeginsOn server mode text t
 found_on server mode text u t f e = let p : u ≡ t = cc in subst (BeginsOn server mode text) p f
 
--- the text up to this end, or by the server's own number, and what follows
+-- the text up to this end, or by the server's own number, and the text after it
 tail_found : (own : List ℕ → Option ℕ) (end : ℕ) (bs : List ℕ) →
     (after : List ℕ) × IsTailBy (own (tail_by (own bs) end bs ++ after)) end (tail_by (own bs) end bs) after
     × (tail_by (own bs) end bs ++ after ≡ bs)

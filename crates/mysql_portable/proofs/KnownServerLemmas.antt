@@ -1,5 +1,5 @@
--- MySQL and MariaDB are honest and decide about a quiet comment by the comment alone; they read some
--- texts otherwise than the grammar and than each other.
+-- MySQL and MariaDB are honest, and decide about a quiet comment by the comment only. They read
+-- some texts differently from the grammar and from each other.
 use Rattle.std.specs.Prelude.{Bool, nat_le, unwrap_or, codes}
 use Rattle.std.proofs.Common.{◌≡◌, ℕ, zero, suc, ◌+◌, ◌<◌, ◌≤◌, true, false, cond, not, ◌==◌, ◌&&◌, List, [], ◌∷◌, ◌++◌, length, take, drop, Option, Some, None, refl, sym, ap, ◌∙◌, subst, arith, drop_at, length-append}
 use Rattle.std.specs.Char.{is_ascii_digit}
@@ -42,7 +42,7 @@ mariadb_honest version (b ∷ text) h =
     or_else (b == byte "M") (from_version (version_of (drop 1 text)) version) _ (by_version (version_of (drop 1 text)) version)
     (or_else (b == exclamation_mark && not (is_of_mysql (version_of text))) (from_version (version_of text) version) comment (by_version (version_of text) version) refl)
 
--- ---- by the comment alone
+-- ---- by the comment only
 
 one_more : (c : Bool) (k b : ℕ) (bs : List ℕ) → take (cond c (1 + k) 0) (b ∷ bs) ≡ cond c (b ∷ take k bs) []
 one_more true k b bs = let more : 1 + k ≡ suc k = omega arith in ap (λ n. take n (b ∷ bs)) more
@@ -52,7 +52,7 @@ digits_after : (b : ℕ) (bs : List ℕ) →
     take_while is_ascii_digit (b ∷ bs) ≡ cond (is_ascii_digit b) (b ∷ take_while is_ascii_digit bs) []
 digits_after b bs = one_more (is_ascii_digit b) (prefix_len is_ascii_digit bs) b bs
 
--- what closes a comment ends the digits before it
+-- the end of a comment ends the digits before it
 digits_before : (n : ℕ) (body rest other : List ℕ) →
     take_while is_ascii_digit (take n ((body ++ asterisk ∷ slash ∷ []) ++ rest))
     ≡ take_while is_ascii_digit (take n ((body ++ asterisk ∷ slash ∷ []) ++ other))
@@ -89,7 +89,7 @@ mariadb_before version (b ∷ bs) rest other =
     ∙ ap (λ n. cond (b == byte "M") (from_version (version_of (drop 1 ((bs ++ asterisk ∷ slash ∷ []) ++ other))) version)
     (cond (b == exclamation_mark && not (is_of_mysql n)) (from_version n version) comment)) (version_before bs rest other)
 
--- a quiet comment is closed, so that what holds before `*/` holds of it
+-- a quiet comment is closed, so a fact about the text before `*/` is a fact about it
 closed : (special : List ℕ → Block) (tail rest other : List ℕ) →
     ((body : List ℕ) → special ((body ++ asterisk ∷ slash ∷ []) ++ rest) ≡ special ((body ++ asterisk ∷ slash ∷ []) ++ other)) →
     IsUpTo (asterisk ∷ slash ∷ []) tail rest → IsUpTo (asterisk ∷ slash ∷ []) tail other →

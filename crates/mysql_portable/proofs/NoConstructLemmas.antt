@@ -26,7 +26,7 @@ no_construct-not b p bad q = ne_eqb b bad (other b p bad q)
 pub no_construct_more : (text : List ℕ) (at : ℕ) → EachPasses begins_no_construct text 0 at → begins_no_construct (get_or text at 0) ≡ true → EachPasses begins_no_construct text 0 (at + 1)
 no_construct_more text at no_construct here k low high = below_more _ _ (λ j lt. no_construct j (omega arith) lt) here k high
 
--- ---- no byte of the run stands before an exponent
+-- ---- no byte of the run is before an exponent
 
 no_sign : (b : ℕ) → begins_no_construct b ≡ true → (b == plus || b == dash) ≡ false
 no_sign b p = or_from _ _ (no_construct-not b p plus refl) (no_construct-not b p dash refl)

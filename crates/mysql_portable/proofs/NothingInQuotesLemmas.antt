@@ -1,4 +1,4 @@
--- What a client finds in quotes where nothing begins: nothing.
+-- A client finds nothing in quotes in which nothing begins.
 use Rattle.std.specs.Prelude.{Bool}
 use Rattle.std.proofs.Common.{get_or-take, ◌≡◌, ◌≢◌, ℕ, zero, suc, ◌<◌, ◌≤◌, true, false, ◌==◌, ne_eqb, List, [], ◌∷◌, length, length-take-le, take, drop, None, refl, sym, ap, ◌∙◌, subst, arith, true≢false}
 use Rattle.std.specs.List.{list_any}

@@ -1,4 +1,4 @@
--- Tokens in whose strings no backslash stands are tokens in the other mode too, in the grammar and on
+-- Tokens whose strings have no backslash are tokens in the other mode too, in the grammar and on
 -- every server.
 use Rattle.std.specs.Prelude.{Bool}
 use Rattle.std.proofs.Common.{◌≡◌, ◌≢◌, ◌++◌, ℕ, true, false, List, [], ◌∷◌, take, refl, sym, ◌∙◌, subst, true≢false}
@@ -41,7 +41,7 @@ last_lacks body b tail e h =
     let p = all_parts is_no_backslash body (b ∷ []) (subst (λ x. list_all is_no_backslash x ≡ true) (sym e) h) in
     (and_parts (is_no_backslash b) true p.1).0
 
--- what follows the quote of a string, without a backslash
+-- the bytes after the quote of a string, without a backslash
 string_other : (mode other : Bool) (quote : ℕ) (tail rest : List ℕ) → list_all is_no_backslash tail ≡ true →
     IsStringTail mode quote tail rest → IsStringTail other quote tail rest
 string_other mode other quote tail rest h (closed_string body u e) =
@@ -52,7 +52,7 @@ string_other mode other quote tail rest h (open_in_escape body b u s e n) =
 
 -- ---- the grammar
 
--- a byte that is plain in one mode is so in the other: no quote opens a string in one mode alone
+-- a byte that is plain in one mode is plain in the other: no quote opens a string in only one mode
 plain_other : (mode other : Bool) (b : ℕ) (rest : List ℕ) → IsToken mode (Plain b) rest →
     IsToken other (Plain b) rest
 plain_other mode other b rest h (QuotedString quote tail) after k e =
@@ -67,7 +67,7 @@ plain_other mode other b rest h (Name name) after k e = h (Name name) after k e
 plain_other mode other b rest h Mark after k e = h Mark after k e
 plain_other mode other b rest h (Plain c) after k e = absurd k
 
--- a token in whose text no escape stands
+-- a token whose text has no escape
 pub token_other : (mode other : Bool) (t : Token) (rest : List ℕ) → holds_no_escape t ≡ true →
     IsToken mode t rest → IsToken other t rest
 token_other mode other (QuotedString quote tail) rest n h = (h.0, string_other mode other quote tail rest n h.1)

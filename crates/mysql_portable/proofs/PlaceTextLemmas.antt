@@ -1,4 +1,4 @@
--- If no token is a place, no place stands in the text outside of tokens either: none joins a number.
+-- If no token is a place, the text has no place outside of tokens either: none joins a number.
 use Rattle.std.specs.Prelude.{Bool}
 use Rattle.std.proofs.Common.{◌≡◌, ◌≢◌, ℕ, true, false, ◌==◌, ◌&&◌, ◌||◌, List, [], ◌∷◌, ◌++◌, take, None, refl, sym, ap, ◌∙◌, subst, inl, inr, arith, true≢false}
 use Rattle.std.specs.Char.{is_ascii_digit}

@@ -87,7 +87,7 @@ string_on server false q tail rest h p = go server.ansi_quotes (q == double_quot
 
 -- ---- comments
 
--- a carriage return stands in the comment, or nowhere before its end
+-- a carriage return is in the comment, or nowhere before its end
 pub returns_alike : (tail rest : List ℕ) → IsUpTo (newline ∷ []) tail rest →
     holds_return (tail ++ rest) ≡ holds_return tail
 returns_alike tail rest (up_to_end lacks e) = rw e (ap holds_return (append-nil tail))
@@ -98,7 +98,7 @@ returns_alike tail rest (up_to_word body e ends) = subst (λ x. holds_return (x 
     closed (b ∷ []) = refl
     closed (b ∷ c ∷ xs) = rw (closed (c ∷ xs)) refl
 
--- a backslash stands before the end of the identifier, or not
+-- a backslash is before the end of the identifier, or not
 pub escapes_alike : (tail rest : List ℕ) → IsUpTo (backquote ∷ []) tail rest →
     escapes_backquote (tail ++ rest) ≡ escapes_backquote tail
 escapes_alike tail rest (up_to_end lacks e) = rw e (ap escapes_backquote (append-nil tail))
@@ -114,7 +114,7 @@ pub line_usual : (server : Server) (tail rest : List ℕ) → IsUpTo (newline �
     holds_return tail ≡ false → IsTailBy (line_on server (tail ++ rest)) newline tail rest
 line_usual server tail rest h p = usual_end (rw (returns_alike tail rest h ∙ p) refl) h
 
--- what tells a comment from a special text stands in the comment, or nowhere
+-- the bytes that distinguish a comment from a special text are in the comment, or nowhere
 pub special_in_front : (tail rest : List ℕ) → IsUpTo (asterisk ∷ slash ∷ []) tail rest →
     begins_special tail ≡ false → begins_special (tail ++ rest) ≡ false
 special_in_front [] rest (up_to_word body e ends) p = absurd (omega (arith, ap length e, length-append body (asterisk ∷ slash ∷ [])))
@@ -237,7 +237,7 @@ dash_line mode ts more h e =
     let b = head_is mode a.0 newline more ha.1 a.2 (newline_plain mode more) in
     (b.0, a.1 ∙ ap (λ x. Plain dash ∷ x) b.1)
 
--- whether an empty comment stands here
+-- whether there is an empty comment here
 pub data HasEmptyComment (t : Token) (rest : List ℕ) : Type 0 where
   empty_here : (more : List ℕ) → t ≡ Plain dash → dash ∷ newline ∷ more ≡ rest → HasEmptyComment t rest
   none_here : ((more : List ℕ) → t ≡ Plain dash → dash ∷ newline ∷ more ≢ rest) → HasEmptyComment t rest

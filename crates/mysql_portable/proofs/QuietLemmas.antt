@@ -26,7 +26,7 @@ cond_of false p q f e = e
 none_if : (c : Bool) (p : Option Token) → c ≡ false → c ≡ true → p ≡ None
 none_if c p f t = absurd (true≢false (sym t ∙ f))
 
--- what is known of a byte that begins nothing
+-- the facts about a byte that begins nothing
 pub record BeginsNothing (b : ℕ) (rest : List ℕ) : Type 0 where
   pub no_quote : is_string_quote b ≡ false
   pub no_backquote : (b == backquote) ≡ false
@@ -112,7 +112,7 @@ BeginNothing rest (b ∷ bs) = IsTrue (not (may_begin_something b (bs ++ rest)))
 pub star_slash : List ℕ
 star_slash = asterisk ∷ slash ∷ []
 
--- what stands apart doesn't begin with `*`
+-- a text that stands apart doesn't begin with `*`
 white_no_asterisk : (b : ℕ) → is_white_space b ≡ true → (b == asterisk) ≡ false
 white_no_asterisk b h = grind arith
 
@@ -235,7 +235,7 @@ read_text (read_skipped {ts = ts} tail q r) =
 read_text (read_executed {us = us} tail q r) =
     ap (λ x. slash ∷ asterisk ∷ x) (plain_text tail us ∙ ap (λ x. tail ++ x) (read_text r))
 
--- what the server makes of the tokens
+-- the tokens as the server reads them
 pub record ReadingOn (server : Server) (mode : Bool) (ts : List Token) : Type 0 where
   pub tokens : List Token
   pub alike : IsReadAs ts tokens
@@ -257,7 +257,7 @@ reading_empty server mode ts o r = record {
   holds = ((o, ended_tail refl refl), r.holds);
 }
 
--- what an honest server makes of `/*` before a quiet text
+-- an honest server's reading of `/*` before a quiet text
 two_ways : (k : Block) → reads_or_skips k ≡ true → (k ≡ executed) ⊎ (k ≡ comment)
 two_ways executed h = inl refl
 two_ways comment h = inr refl

@@ -12,12 +12,12 @@ use Rattle.mysql_portable.specs.Server.{Server, opens_line, line_on, identifier_
 
 -- ---- the token, computed
 
--- what follows the first byte of a token, up to this end or by the server's own number
+-- the bytes after the first byte of a token, up to this end or by the server's own number
 abbrev pub tail_by : Option ℕ → ℕ → List ℕ → List ℕ
 tail_by None end bs = take (len_up_to (end ∷ []) bs) bs
 tail_by (Some n) end bs = take n bs
 
--- what follows the byte after `--` in a comment
+-- the bytes after the byte after `--` in a comment
 abbrev pub line_tail : Server → ℕ → List ℕ → List ℕ
 line_tail server gap bs = cond (gap == newline) [] (tail_by (line_on server bs) newline bs)
 

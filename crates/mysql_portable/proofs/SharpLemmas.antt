@@ -138,9 +138,9 @@ block_alike tail rest h = go (cases_Bool (begins_special tail)) (cases_Bool (is_
     go (inl p) (inl r) = rw r (or_right (not (begins_special tail)) true refl)
     go (inl p) (inr r) = absurd (not_quiet p r h)
 
--- ---- what ends at one byte
+-- ---- tokens that end at one byte
 
--- the server has no number of its own, or ends what follows at once
+-- the server has no number of its own, or ends the text that follows at once
 unasked_or_empty : (asked : Bool) (end : ℕ) (tail rest : List ℕ) → IsTailBy (cond asked (Some 0) None) end tail rest →
     (asked ≡ false) ⊎ (tail ≡ [])
 unasked_or_empty false end tail rest h = inl refl

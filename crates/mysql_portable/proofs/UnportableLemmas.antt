@@ -42,7 +42,7 @@ AllPass-push [] t rest h p = (p, tt)
 AllPass-push (u ∷ ts) t rest h p =
     (subst (λ x. passes u x ≡ true) (sym (text_then-append ts (t ∷ []) rest)) h.0, AllPass-push ts t rest h.1 p)
 
--- what is found at the front is said of its token
+-- a construct that is found at the front is found in its token
 front_of : (mode : Bool) (rest : List ℕ) (kind : TokenKind) (n : ℕ) → (f : IsFirstToken mode rest kind n) →
     front_construct rest n ≡ unportable_at f.token (drop n rest)
 front_of mode rest kind n f =

@@ -1,5 +1,5 @@
--- What holds of a query with its wide names in lower case, by what is found of the query or of a
--- copy in lower case.
+-- The facts about a query with its wide names in lower case, from the construct that is found in
+-- the query or in a copy in lower case.
 use Rattle.std.specs.Prelude.{◌≡◌, Bool, false, List, ℕ}
 use Rattle.std.proofs.Common.{◌∙◌, ap, subst, sym}
 use Rattle.mysql_named_params.specs.LoweredNames.{have_capitals, lower_names}

@@ -1,4 +1,4 @@
--- A text has one fault at most, and what stands before it is the front of a record.
+-- A text has at most one fault, and the text before it is the front of a record.
 use Rattle.std.proofs.Common.{◌≡◌, ◌≢◌, ℕ, ◌<◌, Bool, true, false, true≢false, List, [], ◌∷◌, ◌++◌, Option, Some, None, length, take, drop, refl, sym, ap, ◌∙◌, subst, append_assoc, append-nil, arith, length-drop, take-append-drop}
 use Rattle.mysql_records.specs.Faults.{HasNoEscape, BeginsWithNo, IsFaultAt, IsFieldBefore, return_bare, return_enclosed, quote_bare, open_quote, behind_quote, escape_bare, escape_enclosed, IsRecordBefore, in_field, behind_field, IsTableBefore, in_record, behind_record, IsFaulty, IsFaultyTable}
 use Rattle.mysql_records.specs.Fields.{StartsNoPiece, BeginsWithPieces, BeginsWithField}
@@ -107,7 +107,7 @@ field_fault_same format text b c k l (is_closed k2 tail bytes kb h e p n) (is_cl
     let same : b ≡ c = cc in
     (closed_kind_same format k2 l2 b c kb kc same, same)
 
--- ---- what stands at a fault
+-- ---- the text at a fault
 
 no_escape_is : (text : List ℕ) (c b : ℕ) (rest : List ℕ) → HasNoEscape text → text ≡ c ∷ rest → escape_value c ≡ Some b → ⊥
 no_escape_is [] c b rest h e m = cc
@@ -261,7 +261,7 @@ table_fault_same format text fault other h k =
     fault_is text fault other h.within k.within
     (rows_fault_same format _ _ fault.kind other.kind _ _ h.before h.stands k.before k.stands (parts text fault.at other.at))
 
--- ---- what stands before a fault
+-- ---- the text before a fault
 
 before_field : (format : RecordFormat) (back : List ℕ) (kind : FaultKind) (front : List ℕ) → IsFieldBefore format back kind front →
     (more : List ℕ) × (x : Option (List ℕ)) × IsField format x (front ++ more)

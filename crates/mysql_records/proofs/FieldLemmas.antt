@@ -14,7 +14,7 @@ use Rattle.mysql_records.proofs.PieceLemmas.{special_backslash, special_quote, s
 pub letter_n : ℕ
 letter_n = 78
 
--- ---- what may follow a field
+-- ---- the texts that may follow a field
 
 pub separator_not_backslash : (format : RecordFormat) → separator format ≢ backslash
 separator_not_backslash Csv e = absurd (omega (arith, e))
@@ -135,7 +135,7 @@ pub field_same : (format : RecordFormat) (text : List ℕ) (x y : Option (List �
     BeginsWithField format text y s → (x ≡ y) × (r ≡ s)
 field_same format text x y r s h k = fields_same format x y h.front k.front r s h.is_field k.is_field h.ends k.ends (sym h.whole ∙ k.whole)
 
--- ---- what the front of a text says of its field
+-- ---- the field at the front of a text
 
 -- a field that begins with a quote
 enclosed_is : (format : RecordFormat) (tail bytes rest0 : List ℕ) (x : Option (List ℕ)) (t rest : List ℕ) → has_quotes format ≡ true →
@@ -168,7 +168,7 @@ pub bare_only : (format : RecordFormat) (text bytes rest0 : List ℕ) (x : Optio
     BeginsWithField format text x rest → BeginsWithPieces format false text bytes rest0 → rest0 ≡ rest
 bare_only format text bytes rest0 x rest no_quote no_null f k = bare_is format text bytes rest0 x f.front rest no_quote no_null f.is_field f.ends f.whole k
 
--- ---- what may not follow a field
+-- ---- the texts that may not follow a field
 
 pub no_end : (format : RecordFormat) (text : List ℕ) → text ≢ [] → ((rest : List ℕ) → text ≢ separator format ∷ rest) →
     ((rest : List ℕ) → text ≢ newline ∷ rest) → ((rest : List ℕ) → has_escapes format ≡ false → text ≢ carriage_return ∷ newline ∷ rest) →
@@ -275,7 +275,7 @@ one_of_three a b c d P p q r h =
       ]
     ]
 
--- the first byte of what follows the pieces of a field without quotes, in a format without escapes
+-- the first byte after the pieces of a field without quotes, in a format without escapes
 pub fault_bare : (format : RecordFormat) (text : List ℕ) → (EndsField format text → ⊥) → ((rest : List ℕ) → text ≢ quote ∷ rest) →
     ((rest : List ℕ) → text ≢ backslash ∷ rest) → StartsNoPiece format false text → IsFaultAt format StrayReturn text × (has_escapes format ≡ false)
 fault_bare format [] ends quoted escaped longest = absurd (ends (ends_empty format [] refl))
@@ -333,7 +333,7 @@ fault_escape format text rest e longest =
     subst (IsFaultAt format UnknownEscape) (sym e)
     (refl, no_escape_at format false backslash rest (has_escapes_at format text rest e longest) refl (subst (StartsNoPiece format false) e longest))
 
--- what stands behind a closing quote
+-- the text after a closing quote
 pub fault_behind : (format : RecordFormat) (text : List ℕ) → (EndsField format text → ⊥) →
     ((rest : List ℕ) → has_escapes format ≡ false → text ≢ carriage_return ∷ rest) → StartsNoPiece format true (quote ∷ text) →
     IsFaultAt format BehindQuote text

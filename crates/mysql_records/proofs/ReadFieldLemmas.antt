@@ -1,4 +1,4 @@
--- What is known of a field where it is read, and where it is refused.
+-- The facts about a field that is read, and about one that is refused.
 use Rattle.std.proofs.Common.{◌≡◌, ◌≢◌, ℕ, true, false, eqb, List, [], ◌∷◌, ◌++◌, Option, Some, None, length, refl, sym, ap, ◌∙◌, subst, append-nil, true≢false}
 use Rattle.std.specs.Option.{IfSome, IfNone, is_some}
 use Rattle.std.proofs.lemmas.Bool.{eqb-true}

@@ -1,4 +1,4 @@
--- What is known of a record as its fields are read one by one.
+-- The facts about a record while its fields are read one by one.
 use Rattle.std.proofs.Common.{◌≡◌, ◌≢◌, ℕ, ◌+◌, ◌-◌, ◌<◌, List, [], ◌∷◌, ◌++◌, Option, length, take, drop, refl, sym, ap, ◌∙◌, subst, append_assoc, arith, length-append}
 use Rattle.std.proofs.lemmas.List.{drop_at, take_at}
 use Rattle.mysql_records.specs.Faults.{IsFaultAt, IsRecordBefore, in_field, behind_field, IsFaulty}

@@ -28,7 +28,7 @@ end_same format text more r s at_text_end at_text_end e = refl
 
 -- ---- the first field of a record
 
--- what follows the first field of a record: its end, or a separator and the other fields
+-- the text after the first field of a record: its end, or a separator and the other fields
 pub data Others (format : RecordFormat) (rest : List ℕ) : List (Option (List ℕ)) → List ℕ → Type 0 where
   no_others : (back : List ℕ) → EndsRecord format back rest → Others format rest [] back
   other_fields : (fields : List (Option (List ℕ))) (more : List ℕ) → IsRecordThen format more fields rest → Others format rest fields (separator format ∷ more)

@@ -1,4 +1,4 @@
--- What is known of a table as its records are read one by one.
+-- The facts about a table while its records are read one by one.
 use Rattle.std.proofs.Common.{◌≡◌, ◌≢◌, ℕ, ◌+◌, ◌-◌, ◌<◌, ◌≤◌, List, [], ◌∷◌, ◌++◌, Option, Some, None, length, take, drop, refl, sym, ap, ◌∙◌, subst, append_assoc, append-nil, arith, length-append, take-append-drop}
 use Rattle.std.specs.Prelude.{◌↔◌, IsNone}
 use Rattle.std.proofs.lemmas.List.{drop_at, drop-drop}
@@ -23,7 +23,7 @@ pub record ReadRows (format : RecordFormat) (text : List ℕ) (done : List (List
 pub rows_none : (format : RecordFormat) (text : List ℕ) → ReadRows format text [] text
 rows_none format text = record { front = []; whole = refl; sound = λ rows h. h; complete = λ rows h. (rows, refl, h); before = λ back kind more e some b. b }
 
--- what stands before the rest of a record's text
+-- the text before the rest of a record's text
 front_of : (format : RecordFormat) (back rest : List ℕ) → EndsRecord format back rest → (front : List ℕ) × (back ≡ front ++ rest)
 front_of format back rest (at_line_end line r h) = (line, refl)
 front_of format back rest at_text_end = ([], refl)

@@ -25,7 +25,7 @@ some_same b c e = cc
 none : (P : ℕ → Type 0) → All P []
 none P k d h = absurd (omega arith)
 
--- ---- what stands behind a backslash
+-- ---- the byte after a backslash
 
 one_of : (bytes : List ℕ) (P : ℕ → Type 0) (b : ℕ) → All P bytes → list_any (λ special. eqb b special) bytes ≡ true → P b
 one_of [] P b h e = absurd (true≢false (sym e))

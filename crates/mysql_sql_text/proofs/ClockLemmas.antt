@@ -1,5 +1,5 @@
--- What stands between the quotes of a date or a time: digits, space, `-`, `.` and `:`. None of these is
--- escaped, and all are ASCII.
+-- The text between the quotes of a date or a time: digits, space, `-`, `.` and `:`. None of these
+-- is escaped, and all are ASCII.
 use Rattle.std.proofs.Common.{◌≡◌, ℕ, ◌+◌, ◌-◌, ◌*◌, ◌^◌, ◌<◌, Bool, true, false, ◌||◌, eqb, List, [], ◌∷◌, ◌++◌, length, refl, ◌∙◌, ap, arith, suc, zero}
 use Rattle.std.specs.Prelude.{replicate, codes, if◌then◌else◌}
 use Rattle.std.specs.Char.{is_ascii_digit}

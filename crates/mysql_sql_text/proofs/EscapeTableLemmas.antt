@@ -1,4 +1,4 @@
--- Tables of what stands after a backslash.
+-- Tables of the bytes after a backslash.
 use Rattle.std.proofs.Common.{◌≡◌, ℕ, ◌<◌, Bool, true, false, ◌&&◌, eqb, cond, List, [], ◌∷◌, get_or, refl, ap₂}
 use Rattle.std.proofs.lemmas.Bool.{agree_below, agree_below_at, and_parts, eqb-true, false≢true}
 use Rattle.mysql_sql_text.specs.EscapedLanes.{first_byte, last_byte}
@@ -20,7 +20,7 @@ same_text-true (a ∷ s) (b ∷ t) h =
     let parts = and_parts (eqb a b) (same_text s t) h in
     ap₂ (λ x xs. x ∷ xs) (eqb-true a b parts.0) (same_text-true s t parts.1)
 
--- what a table says of a byte: 46 is its mark for one that stands for itself
+-- the escape of a byte by a table: 46 marks a byte that stands for itself
 abbrev pub escape_by_table : List ℕ → ℕ → List ℕ
 escape_by_table table b = cond (eqb (get_or table b 0) 46) (b ∷ []) (backslash ∷ get_or table b 0 ∷ [])
 
@@ -34,7 +34,7 @@ escaped_byte-by_table table all b h =
 abbrev pub with_first : Bool → ℕ → ℕ → List ℕ
 with_first escape first last = cond escape (first ∷ last ∷ []) (last ∷ [])
 
--- what stands for a byte, by its first byte and its last
+-- the bytes that stand for a byte, by the first and the last of them
 pub escaped_byte-parts : (mode : Bool) (b : ℕ) → b < 256 → with_first (needs_escape mode b) (first_byte mode) (last_byte mode b) ≡ escaped_byte mode b
 escaped_byte-parts true b h =
     same_text-true _ _ (agree_below_at (λ k. same_text (with_first (needs_escape true k) (first_byte true) (last_byte true k)) (escaped_byte true k)) (λ _. true) 256 b refl h)

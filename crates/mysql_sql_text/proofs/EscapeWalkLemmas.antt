@@ -14,7 +14,7 @@ use Rattle.mysql_sql_text.specs.LiteralText.{escaped, escaped_byte, needs_escape
 use Rattle.mysql_sql_text.proofs.MaskLemmas.{mask_l-drop}
 use Rattle.mysql_sql_text.proofs.BlockLemmas.{escaped_byte-plain, escaped-none, length-escaped, length-escaped-le}
 
--- the last block is the end of the bytes, also without what an earlier one has of it
+-- the last block is the end of the bytes, even without those that an earlier block has
 pub block_to_end : (bytes : List ℕ) (last : ℕ) → last + 16 ≡ length bytes → chunk last 16 bytes ≡ drop last bytes
 block_to_end bytes last long = take_all 16 (drop last bytes) (omega (arith, length-drop last bytes))
 
@@ -123,7 +123,7 @@ front_of_copy bytes from at whole count old copied block few room to copy =
     ∙ take-append-add front (chunk from 16 bytes) count
     ∙ ap (λ t. front ++ t) (take-take count 16 (drop from bytes) few)
 
--- the first escape of so many bytes, by the lowest bit of their mask
+-- the first escape of `size` bytes, by the lowest bit of their mask
 module _ (mode : Bool) (bytes : List ℕ) (from size mask : ℕ) (within : from + size ≤ length bytes) (small : size ≤ 16)
     (is : mask ≡ mask_l (map (needs_escape mode) (chunk from size bytes))) (some : ¬ (mask ≡ 0)) where
   abbrev pub count : ℕ
@@ -183,7 +183,7 @@ module _ (mode : Bool) (bytes : List ℕ) (from size mask : ℕ) (within : from 
       ∙ append_assoc front (plain ++ escape) after
       ∙ ap (λ t. front ++ t) (append_assoc plain escape after ∙ sym first_escape_cuts)
 
--- bytes without escapes stand for themselves, and what follows them is escaped
+-- bytes without escapes stand for themselves, and the bytes after them are escaped
 pub escaped-after_none : (mode : Bool) (bytes : List ℕ) (from size : ℕ) → mask_l (map (needs_escape mode) (chunk from size bytes)) ≡ 0
     → escaped mode (drop from bytes) ≡ chunk from size bytes ++ escaped mode (drop (from + size) bytes)
 escaped-after_none mode bytes from size none =

@@ -17,7 +17,7 @@ use Rattle.mysql_sql_text.specs.LiteralText.{escaped, escaped_byte, needs_escape
 use Rattle.mysql_sql_text.specs.declared.escapes.TheConstants.{PLACES}
 use Rattle.mysql_sql_text.proofs.EscapeTableLemmas.{with_first, escaped_byte-parts}
 
--- ---- what stands last for each byte
+-- ---- the last byte that stands for each byte
 
 -- lanes that are computed in two ways, held against each other at each of the 256 bytes
 pub lanes_agree : (f g : ℕ → ℕ) → agree_below (λ x. eqb (f x) (g x)) (λ _. true) 256 ≡ true
@@ -30,7 +30,7 @@ select_lanes : (p : ℕ → Bool) (f g : ℕ → ℕ) (v : List ℕ) → sel_l (
 select_lanes p f g [] = refl
 select_lanes p f g (x ∷ v) = ap (λ t. cond (p x) (f x) (g x) ∷ t) (select_lanes p f g v)
 
--- one byte that is replaced, wherever it stands
+-- one byte that is replaced at each of its places
 pub replaced : (v rest : List ℕ) (f : ℕ → ℕ) (b new : ℕ) → length v ≡ 16 → rest ≡ map f v
     → sel_l (map (top 7) (zip2 (λ x y. cond (eqb x y) 255 0) v (replicate 16 b))) (replicate 16 new) rest ≡ map (λ x. cond (eqb x b) new (f x)) v
 replaced v rest f b new long is =

@@ -39,7 +39,7 @@ mask_l-drop (suc count) (bit ∷ bits) =
 abbrev pub IsMask : (ℕ → Bool) → List ℕ → ℕ → ℕ → ℕ → Type 0
 IsMask p text at end mask = mask ≡ mask_l (map p (chunk at (end - at) text))
 
--- without the bits of so many bytes it is the mask of the others
+-- without its first `count` bits it is the mask of the other bytes
 pub later_mask : (p : ℕ → Bool) (text : List ℕ) (at next end mask count : ℕ) → at + count ≡ next → next ≤ end
     → IsMask p text at end mask → IsMask p text next end (mask / 2 ^ count)
 later_mask p text at next end mask count same le is =

@@ -1,4 +1,4 @@
--- A number after zeros is so many digits, found from the last one.
+-- A number after zeros is a given number of digits, found from the last one.
 use Rattle.std.proofs.Common.{◌≡◌, ℕ, ◌+◌, ◌-◌, ◌*◌, ◌/◌, ◌%◌, ◌^◌, ◌<◌, ◌≤◌, Bool, true, ◌&&◌, eqb, get_or, List, [], ◌∷◌, ◌++◌, length, refl, sym, ◌∙◌, ap, append_assoc, arith, suc, zero, length-append, inl, inr}
 use Rattle.std.specs.Prelude.{replicate}
 use Rattle.std.specs.Fmt.{decimal}
@@ -8,7 +8,7 @@ use Rattle.std.proofs.Math.Nat.{one-le-pow, pow-succ'}
 use Rattle.mysql_sql_text.specs.LiteralText.{padded}
 use Rattle.mysql_sql_text.proofs.ByteNames.{digit_zero}
 
--- the last digits of a number, so many
+-- the last digits of a number
 abbrev pub last_digits : ℕ → ℕ → List ℕ
 last_digits zero n = []
 last_digits (suc width) n = last_digits width (n / 10) ++ (digit_zero + n % 10) ∷ []

@@ -14,7 +14,7 @@ use Rattle.mysql_sql_text.specs.LiteralEnd.{continues_literal, BeginsWithout, Re
 use Rattle.mysql_sql_text.proofs.ReadNaturalLemmas.{all_digits-decimal, read_natural-decimal}
 use Rattle.mysql_sql_text.proofs.ByteNames.{letter_x, capital_n, minus, digit_zero}
 
--- what fails the wider test fails the narrower
+-- a byte that fails the wider test fails the narrower one
 pub begins_narrower : (wide narrow : ℕ → Bool) → ((b : ℕ) → wide b ≡ false → narrow b ≡ false)
     → (rest : List ℕ) → BeginsWithout wide rest → BeginsWithout narrow rest
 begins_narrower wide narrow weaker [] h = tt

@@ -15,7 +15,7 @@ read_units-ordinary mode b (c ∷ text) no_quote no_pair =
     cond-false (is_single_quote b && is_single_quote c) _ _ (ap (λ t. t && is_single_quote c) no_quote)
     ∙ cond-false (is_single_quote b) _ _ no_quote ∙ cond-false (begins_pair mode b) _ _ no_pair
 
--- what stands for a byte reads as that byte
+-- the bytes that stand for a byte are read as that byte
 read_units-escaped_byte : (mode : Bool) (b : ℕ) (text : List ℕ)
     → read_units mode (escaped_byte mode b ++ text) ≡ prefix_read (b ∷ []) (read_units mode text)
 read_units-escaped_byte true b text =

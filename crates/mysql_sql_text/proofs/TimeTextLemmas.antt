@@ -1,4 +1,4 @@
--- Exactly the time texts are read, each as what its parts say.
+-- Exactly the time texts are read, each with the values of its parts.
 use Rattle.std.proofs.Common.{◌≡◌, ℕ, ◌*◌, ◌-◌, ◌<◌, ◌≤◌, ◌^◌, Bool, true, false, List, [], ◌∷◌, ◌++◌, length, Some, None, arith, refl, ◌∙◌, sym, ap, subst, inl, inr, nat_le, eqb}
 use Rattle.std.specs.Prelude.{IfNone, IfSome, Option, ◌↔◌}
 use Rattle.std.specs.Option.{option_map, option_or}
@@ -13,7 +13,7 @@ use Rattle.mysql_sql_text.specs.ReadTimeText.{at_most, fraction_microseconds, fr
 use Rattle.mysql_sql_text.proofs.ValueOfDigitsLemmas.{value_of_digits-found, value_of_digits-below}
 use Rattle.mysql_sql_text.proofs.ByteNames.{colon, minus, point}
 
--- what has the parts of a time text is read
+-- a text that has the parts of a time text is read
 
 field_reads : (width greatest : ℕ) (digits : List ℕ) (n : ℕ) → IsField width greatest digits n
     → at_most greatest (value_of_digits digits) ≡ Some n
@@ -98,7 +98,7 @@ time_text_reads text negative us is =
     ∙ sign_reads negative is.hour_digits (colon ∷ (is.minute_digits ++ colon ∷ (is.second_digits ++ is.fraction))) us digits.0 digits.1
     (hours_read is.hour_digits (is.minute_digits ++ colon ∷ (is.second_digits ++ is.fraction)) is.hours us is.are_hours after)
 
--- what is read has the parts
+-- a text that is read has the parts
 
 at_most_found : (greatest : ℕ) (number : Option ℕ) (n : ℕ) → at_most greatest number ≡ Some n
     → (number ≡ Some n) × (n ≤ greatest)
@@ -169,7 +169,7 @@ fields_found (Some h) (Some m) (Some s) (Some f) us e = record {
   sum = sym (same_Some _ _ e);
 }
 
--- the parts of what stands after the colon of hours that are there
+-- the parts of the text after the colon of hours that are there
 record HasRest (hours : Option ℕ) (text : List ℕ) (us : ℕ) : Type 0 where
   minute_digits : List ℕ
   second_digits : List ℕ
@@ -213,7 +213,7 @@ rest_found hours (a ∷ b ∷ c ∷ d ∷ e ∷ text) us q =
       | inr h ↦ let v : None ≡ Some us = rw h at q in absurd cc
     ]
 
--- the hours and what stands after their colon
+-- the hours and the text after their colon
 IsTimeText-hours : (hours : Option ℕ) (digits rest : List ℕ) (us : ℕ) → (r : HasRest hours rest us)
     → AreHours digits r.h → IsTimeText (digits ++ colon ∷ rest) false us
 IsTimeText-hours hours digits rest us r is = record {
@@ -312,7 +312,7 @@ pub time_texts_are_read : (text : List ℕ) (negative : Bool) (us : ℕ)
     → (time_of_text text ≡ Some (negative, us)) ↔ IsTimeText text negative us
 time_texts_are_read text negative us = (time_text_found text negative us, time_text_reads text negative us)
 
--- what a reader returns that returns what the function says
+-- the result of a reader that returns the value of the function
 
 pub read-IsTimeText : (text : List ℕ) (result : Option (Bool × ℕ)) → result ≡ time_of_text text
     → IfSome result (λ time. IsTimeText text time.0 time.1)

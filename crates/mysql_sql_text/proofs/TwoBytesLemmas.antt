@@ -3,7 +3,7 @@ use Rattle.std.proofs.Common.{◌≡◌, ℕ, suc, ◌+◌, ◌≤◌, List, ◌
 use Rattle.std.proofs.lemmas.List.{drop-set, drop-set-add}
 use Rattle.std.proofs.Math.Seq.{drop-cons}
 
--- they stand before what followed them
+-- they come before the bytes that followed them
 pub drop-set_two : (bytes : List ℕ) (at a b : ℕ) → at + 2 ≤ length bytes
     → drop at (set (set bytes at a) (at + 1) b) ≡ a ∷ b ∷ drop (at + 2) bytes
 drop-set_two bytes at a b room =

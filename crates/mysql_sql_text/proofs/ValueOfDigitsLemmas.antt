@@ -34,7 +34,7 @@ value_of_digits-IsNumeral digits numeral =
     let nonempty : nat_lt 0 (length digits) ≡ true = lt-ltb 0 (length digits) numeral.0 in
     rw (nonempty, numeral_model.from digits numeral.1) refl
 
--- what has a number is one or more digits, and the number is theirs
+-- a text that has a number is one or more digits, and the number is theirs
 pub value_of_digits-found : (digits : List ℕ) (n : ℕ) → value_of_digits digits ≡ Some n
     → (0 < length digits) × (list_all is_ascii_digit digits ≡ true) × (digits_value 10 digits ≡ n)
 value_of_digits-found digits n e =
@@ -46,7 +46,7 @@ value_of_digits-found digits n e =
       | inr h ↦ let v : None ≡ Some n = rw h at e in absurd cc
     ]
 
--- digits of one to so many write a number below that power of ten
+-- one to `width` digits write a number below that power of ten
 pub value_of_digits-below : (digits : List ℕ) (n width : ℕ) → value_of_digits digits ≡ Some n
     → length digits ≤ width → n < 10 ^ width
 value_of_digits-below digits n width e short =
@@ -54,7 +54,7 @@ value_of_digits-below digits n width e short =
     let below : digits_value 10 digits < 10 ^ width = digits_value_short numeral_model digits width is.1 short in
     rw is.2 at below
 
--- what std's parser refuses is no number, or one that 128 bits don't hold
+-- a text that std's parser refuses is no number, or a number that 128 bits don't hold
 value_of_digits-refused : (digits : List ℕ)
     → ¬ (IsNumeral 10 digits × (digits_value 10 digits < 2 ^ 128))
     → IfSome (value_of_digits digits) (λ n. 2 ^ 128 ≤ n)
@@ -74,7 +74,7 @@ value_of_digits-refused digits refused =
         absurd (refused (numeral, ltb-true (digits_value 10 digits) (2 ^ 128) small))
     beyond numeral false large = ltb-false (digits_value 10 digits) (2 ^ 128) large
 
--- what std's parser returns is the number
+-- the result of std's parser is the number
 pub parsed-found : (digits : List ℕ) (result : Option ℕ)
     → SomeIff result (IsNumeral 10 digits × (digits_value 10 digits < 2 ^ 128)) (digits_value 10 digits)
     → IfSome result (λ n. value_of_digits digits ≡ Some n)

@@ -1,4 +1,4 @@
--- What stands between the quotes of a time is a time text, which says the microseconds of the time.
+-- The text between the quotes of a time is a time text with the microseconds of the time.
 use Rattle.std.proofs.Common.{◌≡◌, ℕ, ◌+◌, ◌*◌, ◌/◌, ◌%◌, ◌^◌, ◌<◌, ◌≤◌, true, false, eqb, List, [], ◌∷◌, ◌++◌, length, length-append, append_assoc, refl, sym, ◌∙◌, ap, arith, suc, zero}
 use Rattle.std.specs.Prelude.{Some, nat_lt}
 use Rattle.std.specs.List.{list_all}
@@ -103,7 +103,7 @@ time_after_hours-padded hours m s us mh sh ush =
     ∙ ap (λ o. sum_of_fields (Some hours) (Some m) o (fraction_of (fraction us))) (at_most_59-last_digits s sh)
     ∙ ap (λ o. sum_of_fields (Some hours) (Some m) (Some s) o) (fraction_of-fraction us ush)
 
--- what stands between the quotes, part by part
+-- the text between the quotes, part by part
 time_text-parts : (days hours minutes seconds us : ℕ)
     → time_text false days hours minutes seconds us
     ≡ padded 3 (days * 24 + hours) ++ colon ∷ (padded 2 minutes ++ colon ∷ (padded 2 seconds ++ fraction us))

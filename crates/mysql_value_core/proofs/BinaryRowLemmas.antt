@@ -17,7 +17,7 @@ row_from_value bitmap columns i value rest =
     map_read (λ values. value ∷ values)
     (read_columns bitmap (i + 1) (drop (i + 1) columns) rest)
 
--- what is known of the reading before the column of index i
+-- the facts about the reading before the column with index i
 module _ (bitmap : List ℕ) (columns : List Column) (i : ℕ) (bytes rest : List ℕ)
     (before : List Value) (within : i < length columns)
     (read_on : read_columns bitmap 0 columns bytes
@@ -32,7 +32,7 @@ module _ (bitmap : List ℕ) (columns : List Column) (i : ℕ) (bytes rest : Lis
       ∙ ap (λ n. and_then_read (read_column n (get_or columns i d) rest)
       (row_from_value bitmap columns i)) (sym bit))
 
-  -- if its value is read, it stands after those so far
+  -- if its value is read, it comes after those so far
   pub next_column : (d : Column) (value : Value) (next : List ℕ)
       → read_column null (get_or columns i d) rest ≡ Ok (value, next)
       → read_columns bitmap 0 columns bytes
@@ -49,7 +49,7 @@ module _ (bitmap : List ℕ) (columns : List Column) (i : ℕ) (bytes rest : Lis
       at_column d
       ∙ ap (λ r. row_after before (and_then_read r (row_from_value bitmap columns i))) read
 
-  -- its refusal is that of all of them, and so it is what `?` returns
+  -- its refusal is that of all of them, so it is the error that `?` returns
   pub refused_column : (d : Column) {X Y : Type 0} (seen : X → Value × List ℕ)
       (seen' : Y → List Value × List ℕ) (Takes : Type 0) (e : WireError)
       (result : Result Y WireError) → IsErrAnd result (λ e'. e' ≡ e)
@@ -64,7 +64,7 @@ module _ (bitmap : List ℕ) (columns : List Column) (i : ℕ) (bytes rest : Lis
       (read_columns bitmap 0 columns bytes) ⊥ Takes (read_refusal e) (refused_next d)
       (λ none. absurd none) answer)
 
--- what is read next is the same, whatever is read first
+-- the second reading is the same, whatever the first one reads
 same_after : {X Y : Type 0} (read : Reading X) (next next' : X → List ℕ → Reading Y)
     → ((x : X) (rest : List ℕ) → next x rest ≡ next' x rest)
     → and_then_read read next ≡ and_then_read read next'

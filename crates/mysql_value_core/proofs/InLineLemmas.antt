@@ -11,7 +11,7 @@ use Rattle.mysql_value_core.specs.Literal.{literal_of}
 pub null_in_line : StandsInLine (codes "NULL")
 null_in_line = record { all = refl }
 
--- in either mode, if what stands for bytes does
+-- in either mode, if the literals of bytes are
 pub literal_in_line : (mode : Bool) (v : Value) → ((bytes : List ℕ) → v ≡ Bytes bytes → StandsInLine (bytes_literal mode bytes)) →
     IfSome (literal_of mode v) StandsInLine
 literal_in_line mode NULL string = null_in_line

@@ -1,4 +1,4 @@
--- What holds of the literal of every value: it reads as the value's content, has the shape of
+-- The facts about the literal of every value: it is read as the value's content, has the shape of
 -- literals, is UTF-8, and for many times is a time text between quotes.
 use Rattle.std.proofs.Common.{◌≡◌, ℕ, Bool, true, false, List, [], ◌∷◌, ◌++◌, length, get_or, subst, sym, ◌∙◌, ap, arith, refl, ◌<◌, ◌^◌, suc, rules}
 use Rattle.std.specs.Prelude.{IfSome, is_none, pos, negsuc, ℤ, codes}

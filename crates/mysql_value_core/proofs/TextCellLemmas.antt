@@ -1,4 +1,4 @@
--- Cells that are read one after another: those read so far, and the reading of what follows them.
+-- Cells that are read one after another: those read so far, and the reading of the rest.
 use Rattle.std.proofs.Common.{◌≡◌, ◌∙◌, ◌⊎◌, ap, sym, refl, inl, inr, arith, ℕ, zero, suc, ◌+◌, ◌-◌, ◌<◌, List, [], ◌∷◌, ◌++◌, append_assoc, subst}
 use Rattle.std.specs.Prelude.{Result, Ok, Err, IsOk, IsErrAnd}
 use Rattle.mysql_wire_part.specs.declared.error.WireError.{WireError}
@@ -35,7 +35,7 @@ reads_a_cell : (count : ℕ) (bytes : List ℕ) → 0 < count → IsOk (read_cel
 reads_a_cell zero bytes some read = absurd (omega arith)
 reads_a_cell (suc count) bytes some read = read
 
--- what is known of the reading after `counter` of `count` cells
+-- the facts about the reading after `counter` of `count` cells
 module _ (count counter : ℕ) (bytes rest : List ℕ) (before : List Value)
     (within : counter < count)
     (read_on : read_cells count bytes ≡ row_after before (read_cells (count - counter) rest)) where
@@ -45,7 +45,7 @@ module _ (count counter : ℕ) (bytes rest : List ℕ) (before : List Value)
       let next : count - counter ≡ suc (count - (counter + 1)) = omega arith in
       read_on ∙ ap (λ n. row_after before (read_cells n rest)) next
 
-  -- if this cell is read, it stands after those so far
+  -- if this cell is read, it comes after those so far
   pub next_cell : (cell : Value) (next : List ℕ) → read_cell rest ≡ Ok (cell, next)
       → read_cells count bytes
       ≡ row_after (before ++ cell ∷ []) (read_cells (count - (counter + 1)) next)
@@ -60,7 +60,7 @@ module _ (count counter : ℕ) (bytes rest : List ℕ) (before : List Value)
       one_more
       ∙ ap (λ r. row_after before (and_then_read r (row_from_cell (count - (counter + 1))))) read
 
-  -- the refusal of this cell is that of all of them, and so it is what `?` returns
+  -- the refusal of this cell is that of all of them, so it is the error that `?` returns
   pub refused_cell : {X Y : Type 0} (seen : X → Value × List ℕ) (seen' : Y → List Value × List ℕ)
       (Takes Takes' : Type 0) → (Takes → Takes') → (e : WireError) (result : Result Y WireError)
       → IsErrAnd result (λ e'. e' ≡ e) → IsAnswer seen read_refusal (read_cell rest) Takes (Err e)

@@ -13,5 +13,5 @@ value_text-is_utf8 bytes text same utf8 = rw utf8 (ap Some same)
 pub value_text-not_utf8 : (bytes : List ℕ) → is_utf8 bytes ≡ false → value_text (Bytes bytes) ≡ None
 value_text-not_utf8 bytes other = rw other refl
 
--- what `text_of` is proved by
+-- the lemmas that prove `text_of`
 pub ruleset text_rules = (value_text-is_utf8, value_text-not_utf8, IsUtf8-from_is_utf8)

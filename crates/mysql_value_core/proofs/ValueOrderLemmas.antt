@@ -21,11 +21,11 @@ value_cmp-total = subst IsTotalOrder (λ i v w. cmp-is-value_cmp v w i) total-la
 eq-decides : (v w : Value) → IsTrue (eq-value.it v w) ↔ (v ≡ w)
 eq-decides v w = search rules
 
--- it holds if the order doesn't tell two values apart
+-- it is true if the order doesn't distinguish the two values
 eq-by-value_cmp : (v w : Value) → eq-value.it v w ≡ is_eq (value_cmp v w)
 eq-by-value_cmp v w = matches_eq-law v w ∙ ap is_eq (cmp-is-value_cmp v w)
 
--- the defined order tells apart all that differs
+-- the defined order distinguishes all different values
 pub value_cmp-Equal : (v w : Value) → (value_cmp v w ≡ Equal) ↔ (v ≡ w)
 value_cmp-Equal v w = (
   λ tied. (eq-decides v w).0 (eq-by-value_cmp v w ∙ ap is_eq tied),

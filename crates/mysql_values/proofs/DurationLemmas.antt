@@ -52,7 +52,7 @@ duration-ConvertsAndRollsBack value (Ok (Parsed x kept)) t =
       no_memory = λ memory. memory;
     }
 
--- the time text that converts to a duration, by what the text reads as
+-- the time text that converts to a duration, by the reading of the text
 time_text-converted : (text : List ℕ) (ir : ParseIrOpt Duration) (time : Option (Bool × ℕ))
     → time_of_text text ≡ time
     → option_map (λ n. Parsed n (Bytes text)) (option_and_then nanoseconds_unless_negative time)

@@ -1,4 +1,4 @@
--- Refusals that one answer hands on as those of another.
+-- Refusals that one answer passes on as those of another.
 use Rattle.std.proofs.Common.{◌≡◌}
 use Rattle.std.specs.Prelude.{Option, None, Some, Result, Err}
 use Rattle.mysql_wire_part.specs.Answer.{IsExpectedRefusal}

@@ -1,4 +1,4 @@
--- What stands in front of more bytes is read, and these are left.
+-- Bytes in front of more bytes are read, and the others are left.
 use Rattle.std.proofs.Common.{◌≡◌, ℕ, ◌^◌, ◌<◌, List, ◌++◌, length, take, drop, true, leb, sym, ◌∙◌, ap, arith, length-append}
 use Rattle.std.specs.Prelude.{Ok}
 use Rattle.std.proofs.lemmas.Bool.{cond-true, le-leb}

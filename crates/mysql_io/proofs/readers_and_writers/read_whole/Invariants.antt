@@ -2,7 +2,7 @@ use Rattle.std.proofs.Common.{◌-◌, ◌^◌, vec_len}
 use Rattle.std.specs.Io.KnownBytes.{Consumes}
 use Rattle.mysql_io.proofs.readers_and_writers.read_whole.Given as goal
 
--- what was read so far
+-- the bytes that were read so far
 abbrev pub invariant-reading : goal.invariant-reading
 invariant-reading g l = Consumes (g.R.Read.remaining l.fn.input) (g.R.Read.remaining l.input) l.bytes.items
 

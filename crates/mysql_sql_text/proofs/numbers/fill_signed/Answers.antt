@@ -3,7 +3,7 @@ use Rattle.std.proofs.lemmas.List.{append-nil, drop_all}
 use borrow.Rule.Slice.PartMut.{put_mid}
 use Rattle.mysql_sql_text.proofs.numbers.fill_signed.Goals as goal
 
--- what a byte at the front and then a text over all the rest leave
+-- the buffer after a byte is written at its front, and then a text over all the rest
 after_first : (buffer text : List ℕ) (first : ℕ) → 0 < length buffer →
     put_mid 1 (length (slice_set buffer 0 first) - 1) (slice_set buffer 0 first) text ≡ first ∷ text
 after_first [] text first some = absurd (omega arith)
