@@ -1,10 +1,10 @@
-//! The causes for which query and parameters give no text.
+//! The error of binding parameters to a query.
 use mysql_params_core::params::ParamsError;
 use std::alloc::AllocError;
 use thiserror::Error;
 
-/// The cause for which [`bind_text`](crate::bind_text) or [`bind_text_in`](crate::bind_text_in)
-/// gave no text. It is the first cause, in this order.
+/// The error of [`bind_text`](crate::bind_text) and [`bind_text_in`](crate::bind_text_in): the
+/// first cause for which they gave no text, in this order.
 #[derive(Debug, PartialEq, Drop, Error)]
 pub enum BindError {
     /// The query has both named and positional parameters.

@@ -29,9 +29,9 @@ use crate::bind_error::BindError;
 use crate::bind_pairs_error::BindPairsError;
 use crate::binding::{ParsedQuery, WideQuery};
 
-/// Put texts with the shape of literals in place of a query's names and marks. The tokens of the
-/// result are the query's, with those of each text in place of its name or mark. No place is left
-/// among them.
+/// Texts with the shape of literals, put in place of a query's names and marks, change no other
+/// token. The tokens of the result are the query's, with those of each text in place of its name or
+/// mark. No place is left among them.
 pub fn isolation()
     ensures tokens { (mode : Bool) (query text : List ℕ) (ts : List Token)
         (literals : List (List ℕ)) (lists : List (List Token)) →

@@ -9,7 +9,7 @@ use std::alloc::{AllocError, Global};
 use std::io;
 use std::io::{Read, Write};
 
-/// The cause for which a reader can't be read to its end.
+/// The error of reading to the end.
 #[derive(Drop)]
 pub enum ReadError {
     /// A read failed.

@@ -18,7 +18,7 @@ pub fn one_token_list()
         IsTokens mode query ts → IsTokens mode query us → ts ≡ us }
 {}
 
-/// Every query has tokens, and a function computes them, even for a constant query.
+/// Every query has tokens, and a function gives them. For a constant query it computes them.
 pub fn tokens_exist()
     ensures tokens { (mode : Bool) (query : List ℕ) → IsTokens mode query (tokens_of mode query) }
     ensures unique { (mode : Bool) (query : List ℕ) (ts : List Token) →
@@ -73,16 +73,15 @@ pub fn names_without_capitals()
     ensures nameless { (ts : List Token) → names (widened ts) ≡ [] → widened ts ≡ ts }
 {}
 
-/// Locality: put a mark in place of each wide name of a query. Its tokens of the grammar are then
-/// those of the query, with this mark in place of the tokens of the wide name.
+/// Locality: with a mark in place of each wide name, a query keeps its tokens of the grammar,
+/// except that this mark is in place of those of the wide name.
 pub fn marked_wide_names()
     ensures tokens { (mode : Bool) (query : List ℕ) (ts : List Token) → IsTokens mode query ts →
         IsTokens mode (text_of (with_marks (widened ts))) (with_marks (widened ts)) }
 {}
 
-/// Put the wide names of a query in lower case. Its tokens are then tokens of the grammar: those of
-/// the query, with these names. The text keeps its length, and with marks in place of names it is
-/// the same.
+/// With its wide names in lower case, a query has tokens of the grammar: its own, with these names.
+/// The text keeps its length, and with marks in place of names it is the same.
 pub fn lowered_names()
     ensures tokens { (mode : Bool) (query : List ℕ) (ts : List Token) → IsTokens mode query ts →
         IsTokens mode (text_of (lower_names (widened ts))) (lower_names (widened ts)) }

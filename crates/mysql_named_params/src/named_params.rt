@@ -22,7 +22,7 @@ use thiserror::Error;
 #[error("Named and positional params in one query")]
 pub struct MixedParamsError;
 
-/// The cause for which the names of a query can't be returned.
+/// The error of finding the names of a query.
 #[derive(Debug, PartialEq, Drop, Error)]
 pub enum NamedParamsError {
     /// The query has both named and positional parameters.

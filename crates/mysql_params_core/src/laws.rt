@@ -68,8 +68,8 @@ pub fn lookups_agree()
     ensures agree { LookupsAgree }
 {}
 
-/// The test for a prefix is right. The names of a list that are in a map are a prefix of the list
-/// if and only if their indices are those below some count.
+/// The names of a list that are in a map are found to be a prefix of the list if and only if their
+/// indices are those below some count.
 pub fn prefixes_are_found()
     ensures found { PrefixesAreFound }
 {}

@@ -112,16 +112,16 @@ pub fn same_places()
         positions us ≡ positions ts }
 {}
 
-/// Such a query has the same number of statements on every honest server.
+/// A query whose tokens pass their tests has the same number of statements on every honest server.
 pub fn same_statements()
     ensures count { (server : Server) (mode : Bool) (query : List ℕ) (ts us : List Token) →
         IsHonest server → IsTokens mode query ts → AreReadAlike ts → IsReadOn server mode query us →
         length (statements us) ≡ length (statements ts) }
 {}
 
-/// For each such query without `/*!`, `/*+` and `/*/` in a block comment, a client that keeps
-/// comments is one more server: it reads exactly the tokens that its server reads. So the laws
-/// about servers hold for it.
+/// A client that keeps comments is one more server for each query whose tokens pass their tests, if
+/// no block comment has `/*!`, `/*+` or `/*/`. It reads exactly the tokens that its server reads.
+/// So the laws about servers hold for it.
 pub fn client_is_a_server()
     ensures reads { (client : Client) (mode : Bool) (query : List ℕ) (ts us : List Token) →
         IsHonest client.reader → IsTokens mode query ts → AreReadAlike ts → HoldNoOpener ts →

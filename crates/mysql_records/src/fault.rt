@@ -1,4 +1,4 @@
-//! The causes for which no record is read.
+//! Faults of records, and the error of reading one.
 use std::alloc::AllocError;
 
 /// The kind of a fault: bytes that no record has at their place.
@@ -29,7 +29,7 @@ pub struct Fault {
     pub kind: FaultKind,
 }
 
-/// The cause for which no record is read.
+/// The error of reading a record.
 #[derive(Debug, PartialEq, Drop)]
 pub enum RecordError {
     /// The text doesn't begin with a record.

@@ -1,4 +1,4 @@
-//! The causes for which nothing was read.
+//! The error of reading from a buffer.
 ghost use Rattle.std.specs.Prelude.{◌≡◌, alloc_error};
 ghost use Rattle.mysql_wire_part.specs.declared.error.WireError.TheVariants.{Memory};
 
@@ -6,7 +6,7 @@ use crate::column::ColumnType;
 use std::alloc::AllocError;
 use thiserror::Error;
 
-/// The cause for which nothing was read. The buffer is unchanged.
+/// The error of reading from a buffer. The buffer is unchanged.
 #[derive(Debug, PartialEq, Drop, Error)]
 pub enum WireError {
     /// The buffer has fewer bytes left than needed.

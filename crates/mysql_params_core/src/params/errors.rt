@@ -1,4 +1,4 @@
-//! The causes for which parameters are refused.
+//! The errors of parameters.
 ghost use Rattle.std.specs.Prelude.{◌≡◌, IfOk, OnErr, alloc_error};
 ghost use Rattle.mysql_params_core.specs.Errors.{AreEqualParamsErrors, IsMissing, of_value};
 ghost use Rattle.mysql_params_core.specs.declared.params.errors.ParamsError.TheVariants.{Missing, Confusion, Memory};
@@ -36,7 +36,7 @@ pub enum ParamsConfusionError {
     PositionalParamsForNamedQuery,
 }
 
-/// The cause for which parameters don't give the values of a query.
+/// The error of looking up the values for a query.
 #[derive(Debug, PartialEq, Eq, Drop, Error)]
 pub enum ParamsError {
     /// A name of the query has no value.
@@ -97,7 +97,7 @@ impl<T: Drop> From<AllocFailed<T>> for ParamsError {
     }
 }
 
-/// The cause for which named parameters don't become positional ones.
+/// The error of turning named parameters into positional ones.
 #[derive(Debug, PartialEq, Eq, Drop, Error)]
 pub enum IntoPositionalError {
     /// A name of the list has no value.
@@ -116,7 +116,7 @@ impl From<AllocError> for IntoPositionalError {
     }
 }
 
-/// The cause for which arguments make no parameters.
+/// The error of making parameters from arguments.
 #[derive(Debug, PartialEq, Drop, Error)]
 pub enum ToParamsError {
     /// A pair has the name of an earlier pair. The field is the name.

@@ -14,7 +14,7 @@ use mysql_values::value::convert::{ToValue, ToValueError};
 use std::alloc::Global;
 use std::collections::HashMap;
 
-/// The name of a parameter, as a type.
+/// A type that names a parameter.
 pub trait ToName {
     // the bytes of the name
     ghost name: { Self → List ℕ };

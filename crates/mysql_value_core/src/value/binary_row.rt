@@ -15,7 +15,7 @@ use thiserror::Error;
 // The first byte of a row.
 const ROW_HEADER: u8 = 0;
 
-/// The cause for which a row in binary form wasn't read. The buffer is unchanged.
+/// The error of reading a row in binary form. The buffer is unchanged.
 #[derive(Debug, PartialEq, Drop, Error)]
 pub enum BinaryRowError {
     /// The first byte of the row, which isn't 0. FE and FF begin the packets that end the rows or

@@ -30,7 +30,7 @@ impl FromValueError {
     }
 }
 
-/// The cause for which an argument has no value.
+/// The error of an argument that has no value.
 #[derive(Debug, PartialEq, Drop, Error)]
 pub enum ToValueError {
     /// The duration, rounded to microseconds, has more days than a `Time` holds.

@@ -14,7 +14,7 @@ use mysql_sql_text::{numbers, strings};
 use std::alloc::{AllocError, Global};
 use thiserror::Error;
 
-/// The cause for which a value has no SQL literal.
+/// The error of a value that has no SQL literal.
 #[derive(Debug, PartialEq, Drop, Error)]
 pub enum AsSqlError {
     /// The value is a `Float` or a `Double`.

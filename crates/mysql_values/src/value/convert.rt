@@ -74,16 +74,16 @@ pub trait FromValue: Sized {
     fn commit_intermediate(ir: Self::Intermediate) -> Self
         ensures { seen result ≡ commit (seen_ir ir) };
 
-    /// Returns the intermediate of a value, from which the value can still be had back. If the
-    /// value doesn't convert, it is refused with exactly that value. It allocates nothing.
+    /// Returns the intermediate of a value, from which the value can be restored. If the value
+    /// doesn't convert, it is refused with exactly that value. It allocates nothing.
     fn get_intermediate(v: Value) -> Result<Self::Intermediate, FromValueError>
         ensures converts { ConvertsOrHandsBack seen_ir (conversion v) v result }
         ensures rolls_back { IfOk result (λ ir.
             RollsBack conversion commit (Self.Intermediate.undo ir) (seen_ir ir)) }
         ensures null { IfOk result (λ ir. NullFromNull (Self.Intermediate.undo ir) v) };
 
-    /// Converts a value. It can be called only if the value is proved to convert; `from_value_opt`
-    /// tests it.
+    /// Converts a value that is proved to convert; `from_value_opt` tests this. It can't be called
+    /// for other values.
     fn from_value(v: Value) -> Self
         requires { IsSome (conversion v) }
         ensures { option_map commit (conversion v) ≡ Some (seen result) }
@@ -103,8 +103,8 @@ pub trait FromValue: Sized {
     }
 }
 
-/// Converts a value. It can be called only if the value is proved to convert; `from_value_opt`
-/// tests it.
+/// Converts a value that is proved to convert; `from_value_opt` tests this. It can't be called for
+/// other values.
 pub fn from_value<T: FromValue>(v: Value) -> T
     requires { IsSome (T.conversion v) }
     ensures { option_map T.commit (T.conversion v) ≡ Some (T.seen result) }
