@@ -36,8 +36,8 @@ use std::marker::{Model, PhantomData};
 ///
 /// `Float` and `Double` hold the bits of the number. The fields of `Date` are year, month, day,
 /// hour, minute, second and microseconds. The fields of `Time` are a flag for negative, days,
-/// hours, minutes, seconds and microseconds. Values are equal if variant and fields are equal. The
-/// order is by variant, as listed here, and then by the fields.
+/// hours, minutes, seconds and microseconds. Values are equal if and only if variant and fields are
+/// equal. The order is by variant, as listed here, and then by the fields.
 #[derive(PartialEq, Eq, PartialOrd, Ord, Drop)]
 pub enum Value {
     NULL,
