@@ -1,4 +1,4 @@
--- Fragments of borrowed values: which fragment says the same.
+-- Borrowed fragments, and the fragments of the same content.
 use Rattle.std.specs.Prelude.{◌≡◌, ◌<◌, ◌^◌, List, [], ◌∷◌, length, map, ⊤}
 use Rattle.std.specs.Global.{Vec}
 use Rattle.std.specs.Simd.{first_chunks}
@@ -16,11 +16,11 @@ use Rattle.mysql_fragments.specs.declared.rows_ref.RowsRef.{RowsRef}
 abbrev pub cell_item : ValueRef → Item
 cell_item cell = item.Value (owned cell)
 
--- the rows of cells: so many times `width` of them
+-- the rows of the cells: `count` rows with `width` cells in each
 abbrev pub cell_rows : RowsRef → List (List ValueRef)
 cell_rows rows = first_chunks rows.width rows.count rows.cells.now
 
--- the fragment is what the borrowed one says: the same one, or that of the same values
+-- the fragment has the content of the borrowed one: it is the same one, or that of the same values
 abbrev pub Says : FragmentRef → Fragment → Type 0
 Says (borrowed.Owned fragment) said = said ≡ fragment.now
 Says (borrowed.Value value) said = said ≡ one.Value (owned value)
@@ -29,7 +29,7 @@ Says (borrowed.List cells) said = (items : Vec Item) × (said ≡ one.List items
 Says (borrowed.Rows rows) said = (said_rows : Vec (Vec Item)) × (said ≡ one.Rows said_rows)
     × (map (λ row. row.items) said_rows.items ≡ map (map cell_item) (cell_rows rows))
 
--- as many fragments, and each is what its borrowed one says
+-- there are as many fragments, and each has the content of its borrowed one
 abbrev pub AreSaid : List FragmentRef → List Fragment → Type 0
 AreSaid [] [] = ⊤
 AreSaid [] (said ∷ more) = ⊥
@@ -43,7 +43,7 @@ HasFewCells (borrowed.Value value) = ⊤
 HasFewCells (borrowed.List cells) = length cells.now < 2 ^ 63
 HasFewCells (borrowed.Rows rows) = length rows.cells.now < 2 ^ 63
 
--- each of them has
+-- each of the borrowed fragments has fewer cells than a vector can have
 abbrev pub HaveFewCells : List FragmentRef → Type 0
 HaveFewCells [] = ⊤
 HaveFewCells (fragment ∷ fragments) = HasFewCells fragment × HaveFewCells fragments

@@ -1,5 +1,5 @@
--- The text of borrowed fragments, their values and faults, as the code finds them. What is promised
--- of them is said of the fragments that they say (BorrowedFragments.antt).
+-- The text of borrowed fragments, their values and faults, as the code finds them. The promises are
+-- about the fragments of the same content (BorrowedFragments.antt).
 use Rattle.std.specs.Prelude.{◌+◌, ℕ, Bool, List, [], ◌∷◌, ◌++◌, codes, map, if◌then◌else◌, Option, None, Some, option_map}
 use Rattle.std.specs.List.{flat_map, list_any}
 use Rattle.std.specs.Option.{option_or}
@@ -36,7 +36,7 @@ borrowed_text write (borrowed.Rows rows) =
 abbrev pub cell_values : List ValueRef → List Value
 cell_values cells = flat_map item_values (map cell_item cells)
 
--- its values, in order
+-- the values of a borrowed fragment, in order
 abbrev pub borrowed_values : FragmentRef → List Value
 borrowed_values (borrowed.Owned fragment) = fragment_values fragment.now
 borrowed_values (borrowed.Value value) = owned value ∷ []
@@ -47,7 +47,7 @@ borrowed_values (borrowed.Rows rows) = flat_map cell_values (cell_rows rows)
 abbrev pub has_float_cell : List ValueRef → Bool
 has_float_cell cells = list_any is_float_item (map cell_item cells)
 
--- a value of it is a float
+-- a value of a borrowed fragment is a float
 abbrev pub has_borrowed_float : FragmentRef → Bool
 has_borrowed_float (borrowed.Owned fragment) = has_float fragment.now
 has_borrowed_float (borrowed.Value value) = is_float (owned value)
@@ -59,21 +59,21 @@ abbrev pub cells_fault : List ValueRef → Option FragmentFault
 cells_fault [] = Some Empty
 cells_fault (cell ∷ cells) = None
 
--- its first fault; rows have their shape
+-- the first fault of a borrowed fragment; rows always have their shape
 abbrev pub borrowed_fault : FragmentRef → Option FragmentFault
 borrowed_fault (borrowed.Owned fragment) = fault_of fragment.now
 borrowed_fault (borrowed.Value value) = None
 borrowed_fault (borrowed.List cells) = cells_fault cells.now
 borrowed_fault (borrowed.Rows rows) = None
 
--- the place of the first borrowed fragment with a float, if `place` of them stand before
+-- the place of the first borrowed fragment with a float, if `place` fragments come before these
 abbrev pub first_borrowed_float_from : ℕ → List FragmentRef → Option ℕ
 first_borrowed_float_from place [] = None
 first_borrowed_float_from place (fragment ∷ fragments) =
     if has_borrowed_float fragment then Some place
     else first_borrowed_float_from (place + 1) fragments
 
--- the place of the first one that can't be written, and its fault
+-- the place of the first borrowed fragment that can't be written, and its fault
 abbrev pub first_borrowed_fault_from : ℕ → List FragmentRef → Option (ℕ × FragmentFault)
 first_borrowed_fault_from place [] = None
 first_borrowed_fault_from place (fragment ∷ fragments) =

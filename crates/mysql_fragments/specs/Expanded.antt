@@ -13,9 +13,9 @@ use Rattle.mysql_fragments.specs.FragmentText.{all_values, fragment_text, mark_n
 use Rattle.mysql_fragments.specs.GivenFragments.{GivenFragments, fragments_for}
 use Rattle.mysql_fragments.specs.declared.fragment.Fragment.{Fragment}
 
--- The expanded query of a query with these tokens and what is given to it: a fragment in each of
--- its places, with a mark for each value of the fragment. Whether the values are to be written as
--- literals decides about floats alone.
+-- The expanded query of a query with these tokens and of the fragments that are given to it: a
+-- fragment in each of its places, with a mark for each value of the fragment. Floats are refused
+-- only if the values are to be written as literals.
 pub record IsExpanded (as_literals mode : Bool) (ts : List Token) (given : GivenFragments)
     (text : List ℕ) : Type 0 where
   -- there are the fragments of the places, in order,
@@ -27,7 +27,7 @@ pub record IsExpanded (as_literals mode : Bool) (ts : List Token) (given : Given
   pub shapes : AreFragments mode (map mark_number fragments) (map fragment_text fragments)
   -- and the text is exactly the pieces of the query with one of them between each and the next.
   pub text_is : joined_text (pieces ts) (map fragment_text fragments) ≡ Some text
-  -- There are the tokens of the text of each fragment, read alone,
+  -- There are the tokens of the text of each fragment, read on its own,
   pub lists : List (List Token)
   pub tokens_of_fragments : AreTokensOf mode (map fragment_text fragments) lists
   -- and the tokens of the text are those of the query, with those of one fragment in place of each
@@ -40,8 +40,8 @@ pub record IsExpandedQuery (as_literals mode : Bool) (ts : List Token) (given : 
   pub expanded : IsExpanded as_literals mode ts given text
   pub values_are : values ≡ all_values expanded.fragments
 
--- The text that is bound to a query with fragments: what `bind_text` gives for the expanded query
--- and its values, so all of Isolation.antt holds of it.
+-- The text that is bound to a query with fragments: the one that `bind_text` gives for the expanded
+-- query and its values. So all of Isolation.antt holds of it.
 pub record IsBoundFragments (mode : Bool) (ts : List Token) (given : GivenFragments)
     (text : List ℕ) : Type 0 where
   pub query : List ℕ

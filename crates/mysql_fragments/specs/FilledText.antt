@@ -14,8 +14,7 @@ pub use Rattle.mysql_fragments.specs.FragmentText.{filled_item, filled_items, fi
 use Rattle.mysql_fragments.specs.GivenFragments.{GivenFragments, fragments_for}
 use Rattle.mysql_fragments.specs.declared.fragment.Fragment.{Fragment}
 
--- what stands before the text of this number in a row of texts: the separator, except before the
--- first
+-- the separator before the text of this number in a row of texts; none before the first
 abbrev pub separator_before : List ℕ → ℕ → List ℕ
 separator_before separator i = if i == 0 then [] else separator
 

@@ -1,4 +1,5 @@
--- The causes for which fragments are refused, the first that holds, and what each error stands for.
+-- The causes for which fragments are refused, the first that holds, and the cause that each error
+-- reports.
 use Rattle.std.specs.Prelude.{◌≡◌, ◌⊎◌, ◌+◌, ℕ, Bool, false, List, [], ◌∷◌, length, if◌then◌else◌, Option, Some, None, option_map, Result, Ok, Err, alloc_error}
 use Rattle.std.specs.List.{list_any}
 use Rattle.std.specs.Option.{option_or}
@@ -62,7 +63,7 @@ has_float (one.Assignments assignments) =
     list_any (λ assignment. is_float_item assignment.item) assignments.items
 has_float fragment = false
 
--- the place of the first fragment with a float, if `place` fragments stand before them
+-- the place of the first fragment with a float, if `place` fragments come before these
 abbrev pub first_float_from : ℕ → List Fragment → Option ℕ
 first_float_from place [] = None
 first_float_from place (fragment ∷ fragments) =
@@ -76,8 +77,8 @@ literal_float as_literals fragments = if as_literals then first_float_from 0 fra
 abbrev pub float_cause : Bool → List Fragment → Option Cause
 float_cause as_literals fragments = option_map float_value (literal_float as_literals fragments)
 
--- the place of the first fragment that can't be written, and its fault, if `place` fragments stand
--- before them
+-- the place of the first fragment that can't be written, and its fault, if `place` fragments come
+-- before these
 abbrev pub first_fault_from : ℕ → List Fragment → Option (ℕ × FragmentFault)
 first_fault_from place [] = None
 first_fault_from place (fragment ∷ fragments) =
@@ -99,14 +100,14 @@ abbrev pub cause_of_places : Bool → List Token → Result (List Fragment) Plac
 cause_of_places as_literals ts (Err refusal) = Some (refused_fragments refusal)
 cause_of_places as_literals ts (Ok fragments) = later_cause as_literals ts fragments
 
--- The first cause that holds of a query with these tokens and of what is given to it, if any: those
--- of `bind_text`, in its order, and then the faults of fragments. Whether the values are to be
--- written as literals decides about floats alone.
+-- The first cause that holds of a query with these tokens and of the fragments that are given to
+-- it, if any. The causes are those of `bind_text`, in its order, and then the faults of fragments.
+-- A float is a cause only if the values are to be written as literals.
 abbrev pub first_cause : Bool → List Token → GivenFragments → Option Cause
 first_cause as_literals ts given =
     option_or (mixed_cause ts) (cause_of_places as_literals ts (fragments_for given (names ts)))
 
--- the cause that the error is; none for out of memory
+-- the cause that the error reports; none for out of memory
 abbrev pub cause_of : FragmentsError → Option Cause
 cause_of Mixed = Some mixed_query
 cause_of (Missing error) = Some (refused_fragments (missing error.0.items))

@@ -1,6 +1,6 @@
 -- Why a fragment can't be written: its first fault. Names are refused as servers refuse them (MySQL
--- Reference Manual, "Schema Object Names", "Identifier Length Limits"), and numbers of more digits
--- than servers keep of a literal ("DECIMAL Data Type Characteristics").
+-- Reference Manual, "Schema Object Names", "Identifier Length Limits"). Numbers are refused if they
+-- have more digits than servers keep of a literal ("DECIMAL Data Type Characteristics").
 use Rattle.std.specs.Prelude.{◌+◌, ◌-◌, ◌^◌, ◌==◌, ◌&&◌, ◌||◌, nat_eq, nat_le, nat_lt, not, ℕ, Bool, true, false, List, [], ◌∷◌, length, min, if◌then◌else◌, Option, None, Some, slice_index_or}
 use Rattle.std.specs.Char.{is_ascii_alphabetic, is_ascii_digit}
 use Rattle.std.specs.List.{list_any}
@@ -19,8 +19,8 @@ use Rattle.mysql_fragments.specs.declared.fragments_error.FragmentFault.TheVaria
 
 -- ---- exact numbers
 
--- digits, and at most one point with a digit on both sides: whether the part has a digit yet, and
--- whether the point was passed
+-- digits, and at most one point with a digit on both sides; the flags: this part has a digit
+-- already, and the point was passed
 abbrev pub is_number_from : Bool → Bool → List ℕ → Bool
 is_number_from digit point_passed [] = digit
 is_number_from digit point_passed (b ∷ bytes) =
@@ -84,7 +84,7 @@ rows_fault (first ∷ rows) = rows_fault_from (length first.items) 0 (first ∷ 
 
 -- ---- identifiers
 
--- a byte that goes on with a UTF-8 character
+-- a byte that continues a UTF-8 character
 abbrev pub is_continuation : ℕ → Bool
 is_continuation b = nat_le 128 b && nat_lt b 192
 
@@ -98,8 +98,8 @@ character_count (b ∷ bytes) =
 abbrev pub ends_in_space : List ℕ → Bool
 ends_in_space name = slice_index_or name (length name - 1) 0 == space
 
--- a backslash directly before a backquote, or as the last byte: to InnoDB, which reads an
--- `ALTER TABLE` again, it escapes the backquote that follows it in the text
+-- a backslash directly before a backquote, or as the last byte: InnoDB reads an `ALTER TABLE`
+-- again, and there it escapes the backquote that follows it in the text
 abbrev pub escapes_end : List ℕ → Bool
 escapes_end [] = false
 escapes_end (b ∷ bytes) =
@@ -115,7 +115,7 @@ name_fault part (b ∷ bytes) =
     else if escapes_end (b ∷ bytes) then Some (Backslash part)
     else None
 
--- the number so many after this one, or `usize::MAX` if that is less
+-- the sum of a number and a count, or `usize::MAX` if that is less
 abbrev pub number_after : ℕ → ℕ → ℕ
 number_after number count = min (number + count) (2 ^ 64 - 1)
 
@@ -143,8 +143,8 @@ columns_fault (names ∷ columns) = columns_fault_from 0 (names ∷ columns)
 
 -- ---- assignments
 
--- the fault of the assignment of this number: its column's, whose first name has this number, and
--- then its item's
+-- the fault of the assignment of number `index`: that of its column, whose first name has number
+-- `part`, and then that of its item
 abbrev pub assignment_fault : (part index : ℕ) → ColumnAssignment → Option FragmentFault
 assignment_fault part index assignment =
     option_or (names_fault part assignment.column.items) (item_fault 0 index assignment.item)
@@ -164,7 +164,7 @@ assignments_fault (assignment ∷ assignments) = assignments_fault_from 0 0 (ass
 
 -- ---- keywords
 
--- words of letters and `_` that begin with a letter, with one space between them: whether a word
+-- words of letters and `_` that begin with a letter, with one space between them; the flag: a word
 -- has begun
 abbrev pub is_keyword_from : Bool → List ℕ → Bool
 is_keyword_from begun [] = begun

@@ -1,13 +1,13 @@
--- The shape of what is put in a place of a query, with the number of its marks: a mark, a literal,
--- an exact number, a double, an identifier, a keyword, an assignment, or several of these in a list
--- or a row.
+-- The shape of the text that is put in a place of a query, with the number of its marks: a mark, a
+-- literal, an exact number, a double, an identifier, a keyword, an assignment, or several of these
+-- in a list or a row.
 use Rattle.std.specs.Prelude.{◌+◌, ℕ, Bool, IsTrue, IsFalse, List, [], ◌∷◌, ◌++◌, codes, ⊤}
 use Rattle.mysql_sql_text.specs.LiteralShape.{AreDigits, IsLiteral}
 use Rattle.mysql_float_literal.specs.DoubleShape.{IsDouble}
 use Rattle.mysql_fragments.specs.FragmentFaults.{escapes_end, is_keyword}
 use Rattle.mysql_fragments.specs.FragmentText.{identifier_text}
 
--- identifiers in backquotes with `.` between them, whose backquotes no backslash stands before
+-- identifiers in backquotes with `.` between them, with no backslash directly before a backquote
 pub data IsIdentifier : List ℕ → Type 0 where
   one_name : (name : List ℕ) → IsFalse (escapes_end name) → IsIdentifier (identifier_text name)
   more_names : (name more : List ℕ) → IsFalse (escapes_end name) → IsIdentifier more →
@@ -17,7 +17,7 @@ pub data IsIdentifier : List ℕ → Type 0 where
 pub data IsFragment (mode : Bool) : ℕ → List ℕ → Type 0 where
   -- `?`
   mark_fragment : IsFragment mode 1 (codes "?")
-  -- a literal, a whole number among them
+  -- a literal, such as a whole number
   literal_fragment : (literal : List ℕ) → IsLiteral mode literal → IsFragment mode 0 literal
   -- digits, a point and digits: an exact number
   decimal_fragment : (whole fraction : List ℕ) → AreDigits whole → AreDigits fraction →
@@ -34,7 +34,7 @@ pub data IsFragment (mode : Bool) : ℕ → List ℕ → Type 0 where
   -- an assignment: a column, ` = ` and what it is set to
   assignment_fragment : (n : ℕ) (column value : List ℕ) → IsIdentifier column →
       IsFragment mode n value → IsFragment mode n (column ++ (codes " = " ++ value))
-  -- one after another
+  -- one after another, with `, ` between them
   list_fragment : (n k : ℕ) (first more : List ℕ) → IsFragment mode n first →
       IsFragment mode k more → IsFragment mode (n + k) (first ++ (codes ", " ++ more))
   -- in brackets

@@ -1,6 +1,6 @@
--- The text of a fragment with a given text for each of its values, that with a mark for each, and
--- these values, in order (MySQL Reference Manual, "Numeric Literals", "Schema Object Names",
--- "Comparison Functions and Operators", "VALUES Statement", and of columns and assignments "INSERT
+-- The text of a fragment with a given text for each of its values, the text with a mark for each,
+-- and these values, in order (MySQL Reference Manual, "Numeric Literals", "Schema Object Names",
+-- "Comparison Functions and Operators", "VALUES Statement"; for columns and assignments "INSERT
 -- Statement" and "UPDATE Statement").
 use Rattle.std.specs.Prelude.{◌==◌, ℕ, List, [], ◌∷◌, ◌++◌, if◌then◌else◌, map, codes, length}
 use Rattle.std.specs.List.{flat_map}
@@ -40,7 +40,7 @@ qualified_text names = joined (codes ".") (map (λ name. identifier_text name.it
 abbrev pub columns_text : List (Vec (Vec ℕ)) → List ℕ
 columns_text columns = joined (codes ", ") (map (λ names. qualified_text names.items) columns)
 
--- an item: this text of a value, a number as it is written
+-- an item: this text for a value, and a number as it is written
 abbrev pub filled_item : (Value → List ℕ) → Item → List ℕ
 filled_item write (item.Value value) = write value
 filled_item write (item.Decimal number) = number.items
@@ -64,7 +64,7 @@ abbrev pub filled_assignments : (Value → List ℕ) → List ColumnAssignment �
 filled_assignments write assignments =
     joined (codes ", ") (map (filled_assignment write) assignments)
 
--- a fragment, with this text of each of its values
+-- a fragment, with this text for each of its values
 abbrev pub filled_text : (Value → List ℕ) → Fragment → List ℕ
 filled_text write (one.Value value) = write value
 filled_text write (one.Decimal number) = number.items

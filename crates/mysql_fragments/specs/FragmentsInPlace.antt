@@ -1,6 +1,6 @@
--- What fragments say in the text that is bound to a query with them: each, followed by the text
--- after it, reads as itself and leaves exactly that text. A value is its literal, of which
--- Isolation.antt says how it reads, and a keyword is its bytes.
+-- How fragments read in the text that is bound to a query with them: each, followed by the text
+-- after it, reads as itself and leaves exactly that text. A value is its literal, and
+-- Isolation.antt says how that reads. A keyword is its bytes.
 use Rattle.std.specs.Prelude.{◌≡◌, ℕ, Bool, List, [], ◌∷◌, ◌++◌, codes, length, map, Some, ⊤}
 use Rattle.std.specs.Global.{Vec}
 use Rattle.std.specs.Float.{binary64}

@@ -1,4 +1,4 @@
--- The text of a query with fragments in a room that the caller lends, its length, and its refusal.
+-- The text of a query with fragments in a room of the caller, its length, and its refusal.
 use Rattle.std.specs.Prelude.{◌≡◌, ◌≤◌, ◌⊎◌, ◌+◌, ◌^◌, ℕ, Bool, List, length, map, Option, Some, None, alloc_error}
 use Rattle.std.specs.List.{sum_by}
 use Rattle.mysql_named_params.specs.Tokens.{Token}
@@ -23,7 +23,7 @@ abbrev pub IsTooLong : Literals → List Token → List Fragment → Type 0
 IsTooLong literal ts fragments =
     2 ^ 63 ≤ pieces_len ts + sum_by length (map (filled_text (written_literal literal)) fragments)
 
--- either there is a first cause and the error is this cause, or there is none, what is asked for is
+-- either there is a first cause and the error is this cause; or there is none, the text would be
 -- too long, and the error is `Memory`
 abbrev pub IsCauseOrTooLong : Option Cause → (TooLong : Type 0) → FragmentsError → Type 0
 IsCauseOrTooLong cause TooLong error =

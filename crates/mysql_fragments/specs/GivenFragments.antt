@@ -1,5 +1,4 @@
--- What fragments give to the places of a query. It isn't seen in which order a hash map holds its
--- entries.
+-- The fragments for the places of a query. The order of a hash map's entries makes no difference.
 use Rattle.std.specs.Prelude.{ℕ, List, [], ◌∷◌, map, Option, None, Some, Result, Ok, Err}
 use Rattle.std.specs.Global.{Vec}
 use Rattle.std.specs.Ordering.{nat_cmp}
@@ -23,19 +22,19 @@ by_bytes entry = (entry.0.items, entry.1)
 abbrev pub fragment_map : List (Vec ℕ × Fragment) → FragmentMap
 fragment_map entries = from_entries (map by_bytes entries)
 
--- what is given to a query
+-- the fragments that are given to a query
 pub data GivenFragments : Type 0 where
   -- fragments by name
   named : FragmentMap → GivenFragments
   -- fragments by position
   positional : List Fragment → GivenFragments
 
--- what these fragments give
+-- these fragments, as they are given to a query
 abbrev pub given_fragments : Fragments → GivenFragments
 given_fragments (Named entries) = named (fragment_map entries.entries)
 given_fragments (Positional fragments) = positional fragments.items
 
--- why they give nothing to the places of a query
+-- why there are no fragments for the places of a query
 pub data PlaceRefusal : Type 0 where
   -- this name has no fragment
   missing : List ℕ → PlaceRefusal

@@ -1,5 +1,5 @@
 -- How an identifier in backquotes and an exact number are read (MySQL Reference Manual, "Schema
--- Object Names", "Numeric Literals"). It shares nothing with the definition of what is written,
+-- Object Names", "Numeric Literals"). It shares nothing with the definition of the written text,
 -- and no code uses it.
 use Rattle.std.specs.Prelude.{◌≡◌, ◌+◌, ◌*◌, ◌-◌, ◌==◌, ◌&&◌, ℕ, IsTrue, Bool, List, [], ◌∷◌, ◌++◌, codes, Option, None, Some, option_map, if◌then◌else◌, ℤ, pos, neg_ℤ}
 use Rattle.std.specs.Char.{is_ascii_digit}
@@ -47,25 +47,25 @@ pub data AreReadAsNames : List ℕ → List (List ℕ) → List ℕ → Type 0 w
 
 -- ---- exact numbers
 
--- A number and how many of its last digits stand after the point: `-1.50` is (-150, 2).
+-- A number and how many of its last digits are after the point: `-1.50` is (-150, 2).
 abbrev pub Exact : Type 0
 Exact = ℤ × ℕ
 
--- after a point: the number that digits go on to after the number so far, how many digits stand
--- after the point, and what follows
+-- after a point: the number so far with these digits after it, how many digits are after the point,
+-- and the rest of the text
 abbrev pub read_fraction : ℕ → ℕ → List ℕ → (ℕ × ℕ) × List ℕ
 read_fraction n count [] = ((n, count), [])
 read_fraction n count (b ∷ text) =
     if is_ascii_digit b then read_fraction (10 * n + (b - byte "0")) (count + 1) text
     else ((n, count), b ∷ text)
 
--- after the digits before a point: the point, if it stands there, and the digits after it
+-- after the digits before a point: the point, if there is one, and the digits after it
 abbrev pub read_after_whole : ℕ → List ℕ → (ℕ × ℕ) × List ℕ
 read_after_whole n [] = ((n, 0), [])
 read_after_whole n (b ∷ text) =
     if is_point b then read_fraction n 0 text else ((n, 0), b ∷ text)
 
--- a number without a sign: digits, and a point with digits after it, if it stands there
+-- a number without a sign: digits, and a point with digits after it, if there is one
 abbrev pub read_unsigned : List ℕ → Option ((ℕ × ℕ) × List ℕ)
 read_unsigned text = option_map (λ r. read_after_whole r.0 r.1) (read_natural text)
 
@@ -77,7 +77,7 @@ read_exact (b ∷ text) =
     then option_map (λ r. ((neg_ℤ (pos r.0.0), r.0.1), r.1)) (read_unsigned text)
     else option_map (λ r. ((pos r.0.0, r.0.1), r.1)) (read_unsigned (b ∷ text))
 
--- before whatever may follow a place the text reads as one number, which is all of it
+-- before any text that may follow a place, the text reads as one number, which is all of it
 abbrev pub ReadsAsOne : List ℕ → Type 0
 ReadsAsOne text = (value : Exact) × ((rest : List ℕ) →
     IsTrue (none_or_first may_stand_after rest) → read_exact (text ++ rest) ≡ Some (value, rest))

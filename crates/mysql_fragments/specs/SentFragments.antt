@@ -12,7 +12,7 @@ begins_no_word_of_client (b ∷ bs) =
     not ((nat_le (byte "a") (letter_of b) && nat_le (letter_of b) (byte "z"))
     || letter_of b == underscore)
 
--- each of the texts begins so
+-- each of the texts begins with no word
 abbrev pub BeginNoWords : List (List ℕ) → Type 0
 BeginNoWords [] = ⊤
 BeginNoWords (text ∷ texts) = IsTrue (begins_no_word_of_client text) × BeginNoWords texts

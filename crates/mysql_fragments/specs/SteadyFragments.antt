@@ -1,7 +1,7 @@
--- What binding promises of the text that it gives to fragments for any mode, and for any server:
--- that of SteadyText.antt (of mysql_steady_text) for the expanded query and its values.
--- `bind_fragments_in_any_mode` promises the first record, and `bind_fragments_anywhere` the second,
--- or else an error that says why not (SteadyFragmentsErrors.antt).
+-- The promises about a text with fragments for any mode, and for any server: those of
+-- SteadyText.antt (of mysql_steady_text) for the expanded query and its values.
+-- `bind_fragments_in_any_mode` promises the first record, and `bind_fragments_anywhere` the second.
+-- If there is no text, an error reports the cause (SteadyFragmentsErrors.antt).
 use Rattle.std.specs.Prelude.{◌≡◌, ◌+◌, ℕ, Bool, true, List, [], ◌∷◌, if◌then◌else◌, Option, None, Some, Ok, Err}
 use Rattle.std.specs.List.{list_all}
 use Rattle.mysql_sql_text.specs.StringUnits.{with_backslashes}
@@ -19,8 +19,8 @@ use Rattle.mysql_fragments.specs.FragmentText.{all_values, fragment_text}
 use Rattle.mysql_fragments.specs.GivenFragments.{GivenFragments, PlaceFragments}
 use Rattle.mysql_fragments.specs.declared.fragment.Fragment.{Fragment}
 
--- The place of the first fragment whose text isn't steady, if `place` fragments stand before them.
--- In a fragment without a fault only a name can have such a byte.
+-- The place of the first fragment whose text isn't steady, if `place` fragments come before these.
+-- In a fragment without a fault only a name can have a byte that isn't steady.
 abbrev pub first_unsteady_from : ℕ → List Fragment → Option ℕ
 first_unsteady_from place [] = None
 first_unsteady_from place (fragment ∷ fragments) =
@@ -58,15 +58,15 @@ pub record IsAnywhereFragments (query : List ℕ) (ts : List Token) (given : Giv
   pub portable_text : IsPortable (with_literal_tokens
       (with_literal_tokens ts steady_text.expanded.lists) steady_text.bound.literal_tokens)
   -- On every honest server, in either mode and over every character set, its tokens are those of
-  -- the query, with those of one fragment in place of each name and mark, and in these those of one
-  -- literal in place of each of their marks: those that the grammar reads, except for `--` before a
-  -- newline and for what stands in quiet comments;
+  -- the query, replaced: those of one fragment in place of each name and mark, and then those of
+  -- one literal in place of each mark of a fragment. They are the tokens that the grammar reads,
+  -- except for `--` before a newline and the contents of quiet comments.
   pub read : (server : Server) (mode : Bool) (set : CharacterSet) (vs : List Token) →
       IsHonest server → IsReadOn server mode (seen set text) vs →
       IsReadAs (with_literal_tokens (with_literal_tokens ts steady_text.expanded.lists)
       steady_text.bound.literal_tokens) vs
-  -- and if the server decides about a quiet comment by its own text, exactly those that it reads in
-  -- the query.
+  -- If the server decides about a quiet comment by its own text, the tokens are exactly those that
+  -- it reads in the query, replaced.
   pub tokens : (server : Server) (mode : Bool) (set : CharacterSet) (us : List Token) →
       IsHonest server → DecidesWithin server → IsReadOn server mode (seen set query) us →
       IsReadOn server mode (seen set text)

@@ -1,4 +1,4 @@
--- What each error of binding fragments to a steady text stands for.
+-- The cause of each error of binding fragments to a steady text.
 use Rattle.std.specs.Prelude.{◌≡◌, ℕ, true, List, Option, Some, None}
 use Rattle.mysql_named_params.specs.Tokens.{Token}
 use Rattle.mysql_named_params.specs.NamesAndMarks.{names}
@@ -11,7 +11,7 @@ use Rattle.mysql_fragments.specs.declared.steady_fragments_error.SteadyFragments
 use Rattle.mysql_fragments.specs.declared.steady_fragments_error.SteadyFragmentsError.TheVariants.{Unsteady, Fragments, UnsteadyFragment}
 use Rattle.mysql_fragments.specs.declared.steady_fragments_error.SteadyFragmentsError.TheVariants as error
 
--- the error is one of fragments: their first cause, or out of memory; or there is none, and the
+-- the error is one of fragments: their first cause, or out of memory; or there is no cause, and the
 -- fragment for this place is the first that isn't steady
 abbrev pub IsFragmentsRefusal : List Token → GivenFragments → SteadyFragmentsError → Type 0
 IsFragmentsRefusal ts given (Fragments error) = IsCauseOrMemory (first_cause true ts given) error
@@ -19,10 +19,10 @@ IsFragmentsRefusal ts given (UnsteadyFragment place) = (first_cause true ts give
     × (unsteady_place (fragments_for given (names ts)) ≡ Some place)
 IsFragmentsRefusal ts given error = ⊥
 
--- The error is the first that holds of a query with this first construct that isn't portable, if it
--- is looked for, and of the fragments that are given to it: its first byte that isn't steady; that
--- construct; the first cause of fragments, or out of memory in place of it, of what follows or of a
--- text; the first fragment that isn't steady.
+-- The error is the first of these that holds of a query and of the fragments that are given to it:
+-- its first byte that isn't steady; its first construct that isn't portable, if one is looked for;
+-- the first cause of fragments; the first fragment that isn't steady. Out of memory may come in
+-- place of either of the last two, or of a text.
 abbrev pub IsSteadyRefusal : List ℕ → Option Unportable → List Token → GivenFragments →
     SteadyFragmentsError → Type 0
 IsSteadyRefusal query unportable ts given (Unsteady at) = first_unsteady query ≡ Some at

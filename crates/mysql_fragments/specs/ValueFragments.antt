@@ -1,4 +1,4 @@
--- Fragments that are all values: what is refused of them is what `bind_text` refuses.
+-- Fragments that are all values: they are refused for the causes of `bind_text`.
 use Rattle.mysql_params_core.specs.Lookup as values
 use Rattle.mysql_binding.specs.FirstCause as bound
 use Rattle.mysql_fragments.specs.FragmentErrors.{Cause, mixed_query, refused_fragments, mark_count, not_alone, float_value}

@@ -1,6 +1,6 @@
--- What binding fragments by wide names promises of the text that it gives for any mode and any
--- server, and what its errors stand for. Portable is the query with its names in lower case, as for
--- values (WideAnywhere.antt of mysql_steady_text).
+-- The promises about a text with fragments by wide names, for any mode and any server, and the
+-- causes of its errors. The query with its names in lower case has to be portable, as for values
+-- (WideAnywhere.antt of mysql_steady_text).
 use Rattle.std.specs.Prelude.{◌≡◌, ◌⊎◌, ℕ, Bool, List, Option, alloc_error}
 use Rattle.mysql_named_params.specs.LoweredNames.{lower_names}
 use Rattle.mysql_named_params.specs.Tokens.{Token, text_of}
@@ -28,15 +28,15 @@ pub record IsWideAnywhereFragments (ts : List Token) (given : GivenFragments) (t
   pub portable_text : IsPortable (with_literal_tokens
       (with_literal_tokens ts steady_text.expanded.lists) steady_text.bound.literal_tokens)
   -- On every honest server, in either mode and over every character set, its tokens are those of
-  -- the query, with those of one fragment in place of each name and mark, and in these those of one
-  -- literal in place of each of their marks: those that the grammar reads, except for `--` before a
-  -- newline and for what stands in quiet comments;
+  -- the query, replaced: those of one fragment in place of each name and mark, and then those of
+  -- one literal in place of each mark of a fragment. They are the tokens that the grammar reads,
+  -- except for `--` before a newline and the contents of quiet comments.
   pub read : (server : Server) (mode : Bool) (set : CharacterSet) (vs : List Token) →
       IsHonest server → IsReadOn server mode (seen set text) vs →
       IsReadAs (with_literal_tokens (with_literal_tokens ts steady_text.expanded.lists)
       steady_text.bound.literal_tokens) vs
-  -- and if the server decides about a quiet comment by its own text, exactly those that it reads in
-  -- the query with its names in lower case.
+  -- If the server decides about a quiet comment by its own text, the tokens are exactly those that
+  -- it reads in the query with its names in lower case, replaced.
   pub tokens : (server : Server) (mode : Bool) (set : CharacterSet) (us : List Token) →
       IsHonest server → DecidesWithin server →
       IsReadOn server mode (seen set (text_of (lower_names ts))) us →
@@ -44,8 +44,8 @@ pub record IsWideAnywhereFragments (ts : List Token) (given : GivenFragments) (t
       (with_literal_tokens (with_literal_tokens us steady_text.expanded.lists)
       steady_text.bound.literal_tokens)
 
--- the error is the first that holds, as without wide names, or out of memory, which may also come
--- for the copy of the query in lower case
+-- the error is the first cause that holds, as without wide names, or it is out of memory: the query
+-- is copied in lower case, and memory for the copy may be refused too
 abbrev pub IsWideSteadyRefusal : List ℕ → Option Unportable → List Token → GivenFragments
     → SteadyFragmentsError → Type 0
 IsWideSteadyRefusal query unportable ts given error =

@@ -9,8 +9,8 @@ use crate::fragment::{ColumnAssignment, Fragment, Item};
 use crate::names::{append_columns, append_identifier, append_names, append_separator};
 use mysql_binding::{LiteralForm, append_piece, put_literal};
 
-/// Writes the text of a fragment with the literals of its values into the text from this index on,
-/// and returns the index after it. What stands before it is kept.
+/// Writes the text of a fragment with the literals of its values into `text` from index `at` on,
+/// and returns the index after it. The bytes before `at` are kept.
 pub(crate) fn append_filled<F: LiteralForm>(
     text: &mut [u8],
     at: usize,

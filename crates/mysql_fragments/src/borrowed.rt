@@ -1,4 +1,4 @@
-//! What is found of borrowed fragments: floats, faults, and the length of their text.
+//! Borrowed fragments: their floats, their faults, and the length of their text.
 ghost use Rattle.std.specs.Prelude.{◌≡◌, ◌+◌, ◌^◌, ◌≤◌, None, IfSome, codes, length, map};
 ghost use Rattle.std.specs.List.{flat_map, list_any, sum_by};
 ghost use Rattle.mysql_values.specs.BorrowedValue.{owned};
@@ -106,8 +106,8 @@ fn cells_fault(cells: &[ValueRef<'_>]) -> Option<FragmentFault>
     }
 }
 
-/// The length of a text whose pieces have this many bytes, with these fragments between them, their
-/// values as literals in a form; none if it is above `isize::MAX`.
+/// The length of a text: of the query's pieces, which have `piece_bytes` bytes, and of the
+/// fragments between them, their values as literals in a form. `None` if it is above `isize::MAX`.
 pub(crate) fn borrowed_len<F: LiteralForm>(
     piece_bytes: usize,
     fragments: &[FragmentRef<'_>],

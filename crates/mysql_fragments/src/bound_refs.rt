@@ -22,12 +22,12 @@ use mysql_named_params::places::Reading;
 use mysql_params_core::params::ParamsConfusionError;
 use std::alloc::{AllocError, Global};
 
-/// The query with a fragment in the place of each mark, its values as literals: what
-/// [`bind_fragments_in`](crate::bind_fragments_in) gives for positional fragments that say the
-/// same. The fragments are borrowed: nothing is allocated except one vector of the text's length.
+/// The query with a fragment in the place of each mark, its values as literals. The text is the one
+/// that [`bind_fragments_in`](crate::bind_fragments_in) gives for positional fragments of the same
+/// content. The fragments are borrowed: only one vector of the text's length is allocated.
 ///
-/// What refuses those refuses these, in the same order. [`RowsRef::new`](crate::RowsRef::new) has
-/// refused rows of two lengths before.
+/// It refuses for the same causes in the same order. [`RowsRef::new`](crate::RowsRef::new) already
+/// refuses rows of two lengths.
 ///
 /// `Memory` may come in place of any text. It also comes if the text would be longer than
 /// `isize::MAX` bytes.
@@ -84,9 +84,10 @@ pub(crate) fn bind_borrowed_in(
     Ok(filled_borrowed(alloc, &surveyed, fragments, &form)?)
 }
 
-/// [`bind_borrowed_fragments`] into a room: the text is written to its front, or its length is told
-/// if the room is shorter. Nothing is allocated. What that refuses is refused first, and leaves the
-/// room as it was.
+/// [`bind_borrowed_fragments`] into a room, a buffer of the caller: the text is written to its
+/// front. If the room is shorter than the text, the length of the text is returned. Nothing is
+/// allocated. It refuses first, for the same causes in the same order, and leaves the room as it
+/// was.
 ///
 /// `Memory` comes only if the text would be longer than `isize::MAX` bytes.
 pub fn bind_borrowed_fragments_into(

@@ -26,7 +26,7 @@ use mysql_named_params::places::Reading;
 use mysql_values::value::Value;
 use std::alloc::{AllocError, Global};
 
-/// A query with fragments in its places: what a prepared statement takes.
+/// A query with fragments in its places, for a prepared statement.
 #[derive(Drop)]
 pub struct ExpandedQuery {
     /// The text of the query, with a mark for each value.
@@ -35,17 +35,18 @@ pub struct ExpandedQuery {
     pub values: Vec<Value>,
 }
 
-/// The query with the text of a fragment in the place of each name and mark, with a mark in it for
-/// each value of the fragment, and these values: `a IN (?)` with a list of three values is
-/// `a IN (?, ?, ?)`. Nothing else of the query changes. A server prepares the text, and executes it
-/// with the values.
+/// The query for a prepared statement, with the text of a fragment in the place of each name and
+/// mark, and its values. The text of a fragment has a mark for each of its values: `a IN (?)` with
+/// a list of three values is `a IN (?, ?, ?)`. Nothing else of the query changes. A server prepares
+/// the text, and executes it with the values.
 ///
 /// The first of these causes refuses it: names and marks in one query; a name without a fragment,
-/// or fragments of the other kind; without names, marks that are not as many as the fragments; a
-/// place that doesn't stand alone, as [`bind_text_in`](mysql_binding::bind_text_in) tests it; a
-/// fragment that can't be written ([`Fragment::fault`]). Floats are given as values.
+/// or fragments of the other kind; in a query without names, marks that aren't as many as the
+/// fragments; a place that doesn't stand alone, as [`bind_text_in`](mysql_binding::bind_text_in)
+/// tests it; a fragment that can't be written ([`Fragment::fault`]). A float is no cause: it is
+/// among the values.
 ///
-/// The flag is the server's mode, as that of [`bind_text_in`](mysql_binding::bind_text_in).
+/// The flag is the server's mode, like that of [`bind_text_in`](mysql_binding::bind_text_in).
 ///
 /// `Memory` may come in place of any other result, except for a query with names and marks.
 // A query has one token list in each mode (`mysql_named_params::laws::one_token_list`), so the
@@ -74,7 +75,7 @@ pub fn expanded_query_in(
 }
 
 /// The query with fragments in its places, in the mode in which a backslash escapes:
-/// [`expanded_query_in`] with `false`. See there for what refuses it.
+/// [`expanded_query_in`] with `false`. It refuses for the same causes.
 pub fn expanded_query(
     alloc: Global,
     query: &[u8],
@@ -93,13 +94,13 @@ pub fn expanded_query(
     expanded_query_in(alloc, query, fragments, false)
 }
 
-/// The query with a fragment in the place of each name and mark, its values as literals:
-/// `a IN (?)` with a list of three values is `a IN (1, 'b', NULL)`. It is what
+/// The query with a fragment in the place of each name and mark, its values as literals: `a IN (?)`
+/// with a list of three values is `a IN (1, 'b', NULL)`. The text is the one that
 /// [`bind_text_in`](mysql_binding::bind_text_in) gives for the query of [`expanded_query_in`] and
 /// its values. Nothing else of the query changes.
 ///
-/// The causes of [`expanded_query_in`] refuse it, and directly after a place that doesn't stand
-/// alone a float, which has no literal.
+/// It refuses for the causes of [`expanded_query_in`], in their order, and for a float, which has
+/// no literal. A float comes directly after a place that doesn't stand alone.
 ///
 /// `Memory` may come in place of any other result, except for a query with names and marks. It also
 /// comes if the text would be longer than `isize::MAX` bytes.
@@ -128,7 +129,7 @@ pub fn bind_fragments_in(
 }
 
 /// The query with a fragment in the place of each name and mark, in the mode in which a backslash
-/// escapes: [`bind_fragments_in`] with `false`. See there for what refuses it.
+/// escapes: [`bind_fragments_in`] with `false`. It refuses for the same causes.
 pub fn bind_fragments(
     alloc: Global,
     query: &[u8],
@@ -146,9 +147,8 @@ pub fn bind_fragments(
     bind_fragments_in(alloc, query, fragments, false)
 }
 
-/// The query of [`expanded_query_in`] and its values, which are to be written as literals: it also
-/// refuses a float, as [`bind_fragments_in`] does. It is for a caller that writes the literals
-/// itself; `bind_fragments_in` writes the text with them at once.
+/// [`expanded_query_in`] for a caller that writes the values as literals itself: it also refuses a
+/// float, like [`bind_fragments_in`]. That call writes the text with the literals at once.
 pub fn expanded_for_literals(
     alloc: Global,
     query: &[u8],
@@ -193,8 +193,8 @@ pub(crate) fn bound_fragments(
     Ok(text)
 }
 
-/// The body of [`expanded_query_in`], and of [`expanded_for_literals`] if the values are to be
-/// written as literals, which floats don't have; for a query in any reading.
+/// The body of [`expanded_query_in`], for a query in any reading. With `as_literals` it is the body
+/// of [`expanded_for_literals`], which refuses floats.
 pub(crate) fn expanded(
     alloc: Global,
     query: &[u8],
@@ -215,9 +215,8 @@ pub(crate) fn expanded(
     Ok(expanded)
 }
 
-/// References to the fragments for the places of a query in a reading, if none of the causes
-/// refuses them for which [`expanded_query_in`] does, and [`bind_fragments_in`] if the values are
-/// to be written as literals.
+/// References to the fragments for the places of a query in a reading. It refuses for the causes of
+/// [`expanded_query_in`] and, with `as_literals`, for those of [`bind_fragments_in`].
 pub(crate) fn placed_fragments<'f>(
     alloc: Global,
     query: &[u8],
@@ -236,7 +235,7 @@ pub(crate) fn placed_fragments<'f>(
     placed_surveyed(alloc, &surveyed, fragments, as_literals)
 }
 
-// The same for a query that is surveyed.
+// The same for a surveyed query.
 fn placed_surveyed<'f>(
     alloc: Global,
     surveyed: &SurveyedQuery<'_>,
@@ -327,7 +326,7 @@ fn first_fault(fragments: &[&Fragment]) -> Option<(usize, FragmentFault)>
     None
 }
 
-// The query with fragments in its places, of which there are as many, and their values.
+// The query with fragments in its places, and their values. There are as many fragments as places.
 fn written(
     alloc: Global,
     query: &[u8],

@@ -41,8 +41,8 @@ pub(crate) fn filled_query<F: LiteralForm>(
     Ok(text)
 }
 
-/// The query with the texts of fragments in its places, of which there are as many, with their
-/// values in a form.
+/// The query with the texts of fragments in its places, with their values in a form. There are as
+/// many fragments as places.
 pub(crate) fn spliced_text<F: ValueForm>(
     alloc: Global,
     query: &[u8],

@@ -1,5 +1,5 @@
-//! Queries with borrowed fragments in their places and the literals of values in these, written at
-//! once into a slice of exactly their length.
+//! Queries with borrowed fragments in their places and their values as literals, written at once
+//! into a slice of exactly their length.
 ghost use Rattle.std.specs.Prelude.{◌≡◌, ◌+◌, ◌++◌, ◌≤◌, Some, IfOk, codes, length, map, take};
 ghost use Rattle.std.specs.List.{flat_map, sum_by};
 ghost use Rattle.mysql_named_params.specs.Places.{place_count};
@@ -21,7 +21,8 @@ use mysql_binding::{LiteralForm, SurveyedQuery, append_piece, place_after, put_l
 use mysql_values::value::ValueRef;
 use std::alloc::{AllocError, Global};
 
-/// The query with the texts of borrowed fragments in its places, of which there are as many.
+/// The query with the texts of borrowed fragments in its places. There are as many fragments as
+/// places.
 pub(crate) fn filled_borrowed<F: LiteralForm>(
     alloc: Global,
     surveyed: &SurveyedQuery<'_>,
@@ -43,8 +44,8 @@ pub(crate) fn filled_borrowed<F: LiteralForm>(
     Ok(text)
 }
 
-/// Fills the text with the pieces of the query and, between them, those of borrowed fragments. It
-/// has exactly their length.
+/// Fills `text` with the pieces of the query and, between them, the texts of borrowed fragments.
+/// Its length is exactly theirs.
 pub(crate) fn fill_borrowed<F: LiteralForm>(
     surveyed: &SurveyedQuery<'_>,
     fragments: &[FragmentRef<'_>],
@@ -76,8 +77,8 @@ pub(crate) fn fill_borrowed<F: LiteralForm>(
     append_piece(text, at, rest);
 }
 
-// Writes the text of a fragment with the literals of its values into the text from this index on,
-// and returns the index after it. What stands before it is kept.
+// Writes the text of a fragment with the literals of its values into `text` from index `at` on, and
+// returns the index after it. The bytes before `at` are kept.
 fn append_borrowed<F: LiteralForm>(
     text: &mut [u8],
     at: usize,

@@ -1,17 +1,17 @@
-//! What stands in a place of a query, borrowed.
+//! Borrowed fragments for the places of a query.
 use crate::fragment::Fragment;
 use crate::rows_ref::RowsRef;
 use mysql_values::value::ValueRef;
 
-/// What is put in a place of a query, without a copy of what it is written from.
+/// A borrowed fragment: no value is copied to make it.
 #[derive(Clone, Copy)]
 pub enum FragmentRef<'f> {
-    /// A fragment that is lent whole.
+    /// A whole fragment.
     Owned(&'f Fragment),
-    /// The literal of a value, as [`Fragment::Value`].
+    /// The literal of a value, like [`Fragment::Value`].
     Value(ValueRef<'f>),
-    /// The literals of values with `, ` between them, as [`Fragment::List`] of values.
+    /// The literals of values with `, ` between them, like a [`Fragment::List`] of values.
     List(&'f [ValueRef<'f>]),
-    /// Rows of values in brackets with `, ` between them, as [`Fragment::Rows`] of values.
+    /// Rows of values in brackets with `, ` between them, like [`Fragment::Rows`] of values.
     Rows(RowsRef<'f>),
 }

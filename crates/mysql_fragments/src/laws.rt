@@ -43,16 +43,16 @@ mod steady;
 use mysql_binding::laws::{bound_texts_are_sent, bound_texts_in_clients, bound_texts_on_servers};
 pub use steady::{steady_fragments_are_sent, steady_fragments_in_clients};
 
-/// For borrowed fragments there are fragments that say the same, of any allocator, if no list and
-/// no rows have 2^63 cells or more. So what is said of all of these isn't said of none.
+/// For borrowed fragments there are fragments of the same content, of any allocator, if no list and
+/// no rows have 2^63 cells or more. So a promise about all such fragments is never empty.
 pub fn said_fragments_exist()
     ensures exist { (alloc : Global) (fragments : List borrowed.FragmentRef) →
         HaveFewCells fragments → (said : List said_fragment.Fragment) × AreSaid fragments said }
 {}
 
-/// Whatever texts of the shape of fragments stand in the places of a query, if these stand alone,
-/// then the tokens are the query's, with those of each text in place of its name or mark
-/// (`tokens`), and the places that they bring stand alone too (`alone`).
+/// For a query whose places stand alone, and any texts of the shape of fragments in these places:
+/// the tokens are the query's, with those of each text in place of its name or mark (`tokens`). The
+/// places that the texts bring stand alone too (`alone`).
 pub fn fragments_isolated()
     ensures tokens { (mode : Bool) (query text : List ℕ) (ts : List Token) (counts : List ℕ)
         (texts : List (List ℕ)) (lists : List (List Token)) → IsTokens mode query ts →
@@ -66,10 +66,11 @@ pub fn fragments_isolated()
         first_not_alone (with_literal_tokens ts lists) ≡ None }
 {}
 
-/// If each token of the query passes its test, as those of a portable query do, then so does each
-/// token of the text. Its tokens on every honest server are those that the grammar reads, except
-/// for `--` before a newline and for what stands in quiet comments (`read`); and if the server
-/// decides about a quiet comment by its own text, those that it reads in the query (`tokens`).
+/// If each token of the query passes its test, like those of a portable query, then so does each
+/// token of the text (`portable`). Every honest server reads the tokens that the grammar reads,
+/// except for `--` before a newline and the contents of quiet comments (`read`). If the server
+/// decides about a quiet comment by its own text, it reads the tokens that it reads in the query,
+/// with those of each text in place of its name or mark (`tokens`).
 pub fn fragments_on_servers()
     ensures portable { (mode : Bool) (query text : List ℕ) (ts : List Token) (counts : List ℕ)
         (texts : List (List ℕ)) (lists : List (List Token)) → IsTokens mode query ts →
@@ -90,14 +91,15 @@ pub fn fragments_on_servers()
         IsReadOn server mode query us → IsReadOn server mode text (with_literal_tokens us lists) }
 {}
 
-/// A client that keeps comments cuts the text into as many statements as the query has, if each
-/// token of the query passes its test and no block comment of it holds `/*!`, `/*+` or `/*/`
-/// (`count`). The text has none of the three in a block comment either (`no_opener`), and the
-/// client reads it as the grammar does, except for `--` before a newline and for what stands in
-/// quiet comments (`read`). If it decides about a quiet comment by the comment alone, it reads the
-/// tokens that it reads in the query, with those of one fragment in place of each name and mark
-/// (`tokens`); its statements are then those of the query, with fragments in their places
-/// (`statements`).
+/// If each token of the query passes its test and no block comment in it holds `/*!`, `/*+` or
+/// `/*/`, a client that keeps comments cuts the text into as many statements as the query
+/// (`count`). The text has none of the three in a block comment either (`no_opener`). The client
+/// reads it as the grammar does, except for `--` before a newline and the contents of quiet
+/// comments (`read`).
+///
+/// If the client decides about a quiet comment by the comment only, it reads the tokens that it
+/// reads in the query, with those of one fragment in place of each name and mark (`tokens`). The
+/// statements are then those of the query, with fragments in their places (`statements`).
 pub fn fragments_in_clients()
     ensures no_opener { (mode : Bool) (ts : List Token) (counts : List ℕ) (texts : List (List ℕ))
         (lists : List (List Token)) → AreFragments mode counts texts →
@@ -128,11 +130,12 @@ pub fn fragments_in_clients()
         ≡ statements_with_literals (statements us) lists }
 {}
 
-/// A text that is bound to a portable query with fragments is portable. Its tokens are the query's,
-/// with those of one fragment in place of each name and mark, and in these those of one literal in
-/// place of each of their marks: on every honest server those, except for `--` before a newline and
-/// for what stands in quiet comments (`read`), and if the server decides about a quiet comment by
-/// its own text, so from the tokens that it reads in the query (`tokens`).
+/// A text that is bound to a portable query with fragments is portable (`portable`). Its tokens are
+/// those of the query, replaced: those of one fragment in place of each name and mark, and then
+/// those of one literal in place of each mark of a fragment. Every honest server reads these
+/// tokens, except for `--` before a newline and the contents of quiet comments (`read`). If the
+/// server decides about a quiet comment by its own text, it reads the tokens that it reads in the
+/// query, replaced (`tokens`).
 pub fn bound_fragments_on_servers()
     ensures portable { (mode : Bool) (query text : List ℕ) (ts : List Token)
         (given : GivenFragments) → IsTokens mode query ts →
@@ -155,8 +158,8 @@ pub fn bound_fragments_on_servers()
     bound_texts_on_servers();
 }
 
-/// If a client sends the query as it is, it sends the text as it is, if no fragment has a byte 0 or
-/// a newline, and none begins with a letter, as keywords do.
+/// If a client sends the query as it is, it also sends the text as it is. This requires that no
+/// fragment has a byte 0 or a newline, and that none begins with a letter, as keywords do.
 pub fn fragments_are_sent()
     ensures { (mode : Bool) (query text : List ℕ) (ts : List Token) (counts : List ℕ)
         (texts : List (List ℕ)) (lists : List (List Token)) → IsTokens mode query ts →
@@ -166,12 +169,15 @@ pub fn fragments_are_sent()
         AreSentAsTheyAre (with_literal_tokens ts lists) }
 {}
 
-/// A client that keeps comments cuts a text that is bound to a portable query with fragments,
-/// without `/*!`, `/*+` and `/*/` in a block comment, into as many statements as the query has,
-/// whatever stands in the fragments and values (`count`). It reads the text as the grammar does,
-/// except for `--` before a newline and for what stands in quiet comments (`read`). If it decides
-/// about a quiet comment by the comment alone, it reads the tokens that it reads in the query,
-/// replaced (`tokens`); its statements are then those of the query, replaced (`statements`).
+/// If no block comment of a portable query holds `/*!`, `/*+` or `/*/`, a client that keeps
+/// comments cuts each text that is bound to it with fragments into as many statements as the query
+/// (`count`). This holds for all fragments and values. The text has none of the three in a block
+/// comment either (`no_opener`). The client reads it as the grammar does, except for `--` before a
+/// newline and the contents of quiet comments (`read`).
+///
+/// If the client decides about a quiet comment by the comment only, it reads the tokens that it
+/// reads in the query, replaced (`tokens`). The statements are then those of the query, replaced
+/// (`statements`).
 pub fn bound_fragments_in_clients()
     ensures no_opener { (mode : Bool) (text : List ℕ) (ts : List Token)
         (given : GivenFragments) → (b : IsBoundFragments mode ts given text) → HoldNoOpener ts →
@@ -203,9 +209,9 @@ pub fn bound_fragments_in_clients()
     bound_texts_in_clients();
 }
 
-/// A text that is bound to a query which is portable in a client is portable in it too, if no
-/// fragment and no literal has a newline or a byte 0, and no fragment begins with a letter, as
-/// keywords do.
+/// If a query is portable in a client, then so is each text that is bound to it with fragments.
+/// This requires that no fragment and no literal has a newline or a byte 0, and that no fragment
+/// begins with a letter, as keywords do.
 pub fn bound_fragments_are_sent()
     ensures { (mode : Bool) (query text : List ℕ) (ts : List Token) (given : GivenFragments) →
         IsTokens mode query ts → IsPortableInClient ts →
@@ -221,12 +227,12 @@ pub fn bound_fragments_are_sent()
     bound_texts_are_sent();
 }
 
-/// What is written in a place reads as itself, by readers of identifiers and of exact numbers. An
-/// identifier reads as its name before any text that doesn't begin with a backquote (`name`), and
-/// names with points between them as these before whatever may follow a place (`names`). An exact
-/// number reads there as one number (`number`): that of its digits, with as many of them after the
-/// point as it has (`whole`, `fraction`), and the other one after `-` (`negative`,
-/// `negative_fraction`).
+/// Identifiers and exact numbers in a place read as themselves, by readers of identifiers and of
+/// exact numbers. An identifier reads as its name before any text that doesn't begin with a
+/// backquote (`name`). Names with points between them read as these names before any text that may
+/// follow a place (`names`). There an exact number reads as one number (`number`): its digits as a
+/// number, with as many of them after the point as it has (`whole`, `fraction`). After `-` it is
+/// the negative of that number (`negative`, `negative_fraction`).
 pub fn fragments_read_back()
     ensures name { (name rest : List ℕ) → BeginsWithout is_backquote rest →
         read_identifier (identifier_text name ++ rest) ≡ Some (name, rest) }
@@ -250,10 +256,10 @@ pub fn fragments_read_back()
         ≡ Some ((neg_ℤ (pos (digits_value 10 (whole ++ fraction))), length fraction), rest) }
 {}
 
-/// The text that is bound to a query with fragments is its pieces with a text for each fragment
-/// between them. In it each identifier, exact number and double, followed by the text after it,
-/// reads as itself and leaves exactly that text, also within a list or rows. Each value is its
-/// literal, and each keyword is its bytes.
+/// The text that is bound to a query with fragments is the query's pieces with a text for each
+/// fragment between them. Each identifier, exact number and double in it, followed by the rest of
+/// the text, reads as itself and leaves exactly that rest, also within a list or rows. Each value
+/// is its literal, and each keyword is its bytes.
 pub fn fragments_read_in_place()
     ensures { (mode : Bool) (ts : List Token) (given : GivenFragments) (text : List ℕ) →
         (b : IsBoundFragments mode ts given text) → (texts : List (List ℕ))
@@ -261,10 +267,11 @@ pub fn fragments_read_in_place()
         × ReadAsThemselves mode (pieces ts) b.expanded.fragments texts }
 {}
 
-/// If the fragments for the places are all values, then each text that is bound to them is bound to
-/// these values too (`text`), and the first cause that refuses them is the one that refuses the
-/// values (`causes`): [`bind_fragments_in`](crate::bind_fragments_in) is then
-/// [`bind_text_in`](mysql_binding::bind_text_in).
+/// If the fragments for the places are all values, then
+/// [`bind_fragments_in`](crate::bind_fragments_in) does the same as
+/// [`bind_text_in`](mysql_binding::bind_text_in). Each text that is bound to the fragments is also
+/// bound to the values (`text`), and the first cause that refuses the fragments is the one that
+/// refuses the values (`causes`).
 pub fn values_bind_as_text()
     ensures text { (mode : Bool) (ts : List Token) (given : GivenFragments) (params : Given)
         (values : List Value) (text : List ℕ) →

@@ -1,16 +1,15 @@
 //! Fragments: lists, rows, exact numbers, identifiers, columns, assignments and keywords in the
 //! places of a query.
 //!
-//! [`bind_fragments_in`] is the call for a mode of the server, and [`bind_fragments`] the same for
-//! the mode in which a backslash escapes. [`expanded_query_in`] gives the query with marks and the
-//! values, as a prepared statement wants them. `specs/Expanded.antt` says what they promise.
-//! [`bind_borrowed_fragments`] copies nothing of what it binds, and
-//! [`bind_borrowed_fragments_into`] allocates nothing. [`bind_wide_fragments_in`] and the calls
-//! beside it read names with capitals too.
+//! [`bind_fragments_in`] binds for a mode of the server, and [`bind_fragments`] for the mode in
+//! which a backslash escapes. [`expanded_query_in`] gives the query with marks, and its values, for
+//! a prepared statement. `specs/Expanded.antt` defines their promises. [`bind_borrowed_fragments`]
+//! copies no fragment, and [`bind_borrowed_fragments_into`] allocates nothing. The calls with
+//! `wide` in their names, such as [`bind_wide_fragments_in`], read names with capitals too.
 //!
-//! [`bind_fragments_anywhere`] gives text that every server reads alike, in either mode and over
-//! every character set, and [`bind_fragments_in_any_mode`] does so for one server: values stand in
-//! steady literals. `specs/SteadyFragments.antt` says what they promise of it.
+//! [`bind_fragments_anywhere`] gives a text that every server reads alike, in either mode and over
+//! every character set. [`bind_fragments_in_any_mode`] does so for one server. Both write values as
+//! steady literals. `specs/SteadyFragments.antt` defines their promises.
 #![tactic(auto)]
 
 mod appended;

@@ -1,6 +1,6 @@
-//! The length of a query with fragments in its places and the literals of values in these, before a
-//! byte of it is written. Nothing is allocated. Each length is added to the one so far, and there
-//! is none if the sum is above `isize::MAX`.
+//! The length of a query with fragments in its places and their values as literals, before a byte
+//! of it is written. Nothing is allocated. Each function adds a length to the one so far, and
+//! returns `None` if the sum is above `isize::MAX`.
 ghost use Rattle.std.specs.Prelude.{◌≡◌, ◌+◌, ◌^◌, ◌≤◌, [], ◌∷◌, None, IfSome, codes, length, map};
 ghost use Rattle.std.specs.List.{flat_map};
 ghost use Rattle.mysql_values.specs.BorrowedValue.{owned};
@@ -209,7 +209,7 @@ pub(crate) fn with_literal<F: LiteralForm>(
     with_more(len, literal_len(value, form))
 }
 
-/// The length with that of a separator, which stands before each text except the first.
+/// The length with that of a separator before the text of number `i`: the first text has none.
 pub(crate) fn with_separator(len: usize, i: usize, separator: &[u8]) -> Option<usize>
     ensures len { IfSome result (λ sum. sum ≡ len + length (separator_before separator.now i)) }
     ensures too_long { result ≡ None → 2 ^ 63 ≤ len + length (separator_before separator.now i) }
@@ -221,7 +221,7 @@ pub(crate) fn with_separator(len: usize, i: usize, separator: &[u8]) -> Option<u
     }
 }
 
-/// The length and so many bytes more.
+/// The length and `more` bytes.
 pub(crate) fn with_more(len: usize, more: u128) -> Option<usize>
     ensures len { IfSome result (λ sum. sum ≡ len + more) }
     ensures too_long { result ≡ None → 2 ^ 63 ≤ len + more }

@@ -5,8 +5,8 @@ ghost use Rattle.mysql_fragments.specs.FragmentText.{columns_text, doubled, iden
 
 use mysql_binding::append_piece;
 
-/// Writes columns with commas between them into the text from this index on, and returns the index
-/// after them. What stands before them is kept.
+/// Writes columns with commas between them into the text from index `at` on, and returns the index
+/// after them. The bytes before `at` are kept.
 pub(crate) fn append_columns(text: &mut [u8], at: usize, columns: &[Vec<Vec<u8>>]) -> usize
     requires room { at + length (columns_text columns.now) ≤ length text.old }
     ensures next { result ≡ at + length (columns_text columns.now) }
@@ -20,8 +20,8 @@ pub(crate) fn append_columns(text: &mut [u8], at: usize, columns: &[Vec<Vec<u8>>
     end
 }
 
-/// Writes names as identifiers with points between them into the text from this index on, and
-/// returns the index after them. What stands before them is kept.
+/// Writes names as identifiers with points between them into the text from index `at` on, and
+/// returns the index after them. The bytes before `at` are kept.
 pub(crate) fn append_names(text: &mut [u8], at: usize, names: &[Vec<u8>]) -> usize
     requires room { at + length (joined (codes ".")
         (map (λ name. identifier_text name.items) names.now)) ≤ length text.old }
@@ -75,8 +75,8 @@ fn append_byte(text: &mut [u8], at: usize, b: u8) -> usize
     }
 }
 
-/// Writes a separator, which stands before each text except the first, and returns the index after
-/// it.
+/// Writes the separator before the text of number `i`, except before the first, and returns the
+/// index after it.
 pub(crate) fn append_separator(text: &mut [u8], at: usize, i: usize, separator: &[u8]) -> usize
     requires room { at + length (separator_before separator.now i) ≤ length text.old }
     ensures next { result ≡ at + length (separator_before separator.now i) }

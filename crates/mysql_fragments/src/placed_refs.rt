@@ -1,5 +1,5 @@
 //! Borrowed fragments for the places of a query, in order: why they are refused, and the text in a
-//! room that the caller lends. Both are lent to the crates above, which find the fragments of names
+//! room of the caller. Both calls are for the crates above, which find the fragments of names
 //! themselves. Nothing is allocated.
 ghost use Rattle.std.specs.Prelude.{◌≡◌, ◌+◌, false, true, List, None, Some, IfSome, length, option_map};
 ghost use Rattle.mysql_named_params.specs.Tokens.{Token};
@@ -21,9 +21,9 @@ use crate::fragment_ref::FragmentRef;
 use crate::fragments_error::FragmentsError;
 use mysql_binding::{LiteralForm, Survey, SurveyedQuery, TextInRoom};
 
-/// The first of the causes after the fragments for the places are known: the marks, the places, the
-/// floats, the faults. Names and marks in one query, names without a fragment and fragments of the
-/// other kind are refused before.
+/// The first cause that refuses the fragments once they are in the order of the places: the number
+/// of marks, a place that doesn't stand alone, a float, a fault. The caller has already refused
+/// names and marks in one query, names without a fragment and fragments of the other kind.
 pub fn placed_error(survey: Survey, placed: &[FragmentRef<'_>]) -> Option<FragmentsError>
     ensures cause { (ts : List Token) (said : List said_fragment.Fragment) →
         AreSaid placed.now said → IsSurvey survey ts → option_map cause_of result
@@ -49,9 +49,10 @@ pub fn placed_error(survey: Survey, placed: &[FragmentRef<'_>]) -> Option<Fragme
     }
 }
 
-/// The text of a query whose places have these fragments, with the literals in any form: it is
-/// written to the front of the room, or its length is told if the room is shorter. None if it would
-/// be longer than `isize::MAX` bytes; then the room is unchanged too.
+/// The text of a query with these fragments in its places, with the literals in any form. It is
+/// written to the front of the room. If the room is shorter than the text, the length of the text
+/// is returned. `None` if the text would be longer than `isize::MAX` bytes. In these two cases the
+/// room is unchanged.
 pub fn bind_placed_into<F: LiteralForm>(
     surveyed: &SurveyedQuery<'_>,
     placed: &[FragmentRef<'_>],

@@ -5,7 +5,7 @@ ghost use Rattle.mysql_fragments.specs.RowShape.{shape_fault};
 use crate::fragments_error::FragmentFault;
 use mysql_values::value::ValueRef;
 
-/// Rows of borrowed values that stand in one slice, one row after another, all of one length.
+/// Rows of borrowed values in one slice, one row after another, all of one length.
 #[derive(Clone, Copy)]
 pub struct RowsRef<'v> {
     cells: &'v [ValueRef<'v>],
@@ -15,11 +15,11 @@ pub struct RowsRef<'v> {
 }
 
 impl<'v> RowsRef<'v> {
-    /// The rows of these cells with `width` of them in each.
+    /// The rows of these cells, with `width` cells in each.
     ///
-    /// It refuses no cells (`Empty`) and a width of 0 (`EmptyRow`). Cells that are not a multiple
-    /// of the width are refused as `RowLength`, with the number of the last row. It is 0 if the
-    /// cells are fewer than the width.
+    /// An empty slice is refused as `Empty`, and a width of 0 as `EmptyRow`. If the number of cells
+    /// isn't a multiple of the width, they are refused as `RowLength`, with the number of the last
+    /// row. That number is 0 if there are fewer cells than the width.
     pub fn new(cells: &'v [ValueRef<'v>], width: usize) -> Result<RowsRef<'v>, FragmentFault>
         ensures made { IfOk result (λ rows. (rows.cells.now ≡ cells.now) × (rows.width ≡ width)
             × (length cells.now ≡ rows.count * width)) }

@@ -22,18 +22,18 @@ use mysql_portable::steady::first_unsteady;
 use mysql_steady_text::SteadyForm;
 use std::alloc::Global;
 
-/// The query with a fragment in the place of each name and mark, its values as steady literals: SQL
-/// text that no `sql_mode` and no character set of a connection reads otherwise, on any server.
+/// The query with a fragment in the place of each name and mark, its values as steady literals. No
+/// `sql_mode` and no character set of a connection changes how any server reads the text.
 ///
-/// It is what [`bind_text_anywhere`](mysql_steady_text::bind_text_anywhere) gives for the query of
-/// [`expanded_query`](crate::expanded_query) and its values. So the text is ASCII without
-/// a backslash. Nothing else of the query changes.
+/// The text is the one that [`bind_text_anywhere`](mysql_steady_text::bind_text_anywhere) gives for
+/// the query of [`expanded_query`](crate::expanded_query) and its values. So it is ASCII without a
+/// backslash. Nothing else of the query changes.
 ///
 /// The first of these causes refuses it: `Unsteady`, a backslash or a byte from 128 on anywhere in
 /// the query, also in a comment; `Unportable`, a construct that
-/// [`first_unportable`](mysql_portable::portable::first_unportable) finds; `Fragments`, what
-/// [`bind_fragments`](crate::bind_fragments) refuses, in its order; `UnsteadyFragment`, a
-/// fragment with a name that has a backslash or a byte from 128 on. Each place is one of the query.
+/// [`first_unportable`](mysql_portable::portable::first_unportable) finds; `Fragments`, a cause of
+/// [`bind_fragments`](crate::bind_fragments), in its order; `UnsteadyFragment`, a fragment with a
+/// name that has a backslash or a byte from 128 on. Each place in an error is one of the query.
 ///
 /// MariaDB stores an expression of `DEFAULT`, `AS` or `CHECK` as text in which the introducer of a
 /// steady literal isn't kept right. For the expressions of tables use `bind_fragments`.
@@ -71,9 +71,9 @@ pub fn bind_fragments_anywhere(
     bind_steady_fragments(alloc, query, fragments, false)
 }
 
-/// [`bind_fragments_anywhere`] for a query that is meant for one server: the text that no
-/// `sql_mode` and no character set reads otherwise. The query needn't be portable, so `Unportable`
-/// never comes; all else is as there.
+/// [`bind_fragments_anywhere`] for a query that is meant for one server. No `sql_mode` and no
+/// character set changes how that server reads the text. The query needn't be portable, so
+/// `Unportable` never comes. Everything else is the same.
 pub fn bind_fragments_in_any_mode(
     alloc: Global,
     query: &[u8],
@@ -97,8 +97,8 @@ pub fn bind_fragments_in_any_mode(
     }
 }
 
-/// The text of a steady query, which has the same tokens in both modes, by wide names or by those
-/// of the grammar. The error is of fragments.
+/// The text of a steady query, by wide names or by those of the grammar. Such a query has the same
+/// tokens in both modes. The error is `Fragments` or `UnsteadyFragment`.
 pub(crate) fn bind_steady_fragments(
     alloc: Global,
     query: &[u8],

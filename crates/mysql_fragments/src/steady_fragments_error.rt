@@ -19,7 +19,7 @@ pub enum SteadyFragmentsError {
     /// [`bind_fragments_in_any_mode`](crate::bind_fragments_in_any_mode).
     #[error("Not portable at byte {} of the query: {}", .0.at, .0.construct)]
     Unportable(Unportable),
-    /// What [`bind_fragments`](crate::bind_fragments) refuses, or out of memory.
+    /// A cause of [`bind_fragments`](crate::bind_fragments), or out of memory.
     #[error(transparent)]
     Fragments(FragmentsError),
     /// The fragment for a place has a name with a backslash or a byte from 128 on; the first such

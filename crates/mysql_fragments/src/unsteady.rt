@@ -24,7 +24,7 @@ pub(crate) fn first_unsteady_place(fragments: &[&Fragment]) -> Option<usize>
     None
 }
 
-/// The place of the first borrowed fragment whose text isn't steady. It is lent to the crate above.
+/// The place of the first borrowed fragment whose text isn't steady. For the crate above.
 pub fn first_unsteady_fragment(fragments: &[FragmentRef<'_>]) -> Option<usize>
     ensures { (said : List said_fragment.Fragment) → AreSaid fragments.now said →
         result ≡ first_unsteady_from 0 said }
@@ -37,7 +37,7 @@ pub fn first_unsteady_fragment(fragments: &[FragmentRef<'_>]) -> Option<usize>
     None
 }
 
-// Whether the text of the fragment is steady. That of values always is.
+// Whether the text of the fragment is steady. The text of values always is.
 fn is_steady_borrowed(fragment: &FragmentRef<'_>) -> bool
     ensures { (said : said_fragment.Fragment) → Says fragment.now said →
         result ≡ list_all is_steady (fragment_text said) }
@@ -50,8 +50,8 @@ fn is_steady_borrowed(fragment: &FragmentRef<'_>) -> bool
     }
 }
 
-// Whether the text of the fragment is steady. The text isn't made: marks, and all that stands
-// around numbers and names, is steady.
+// Whether the text of the fragment is steady. The text isn't made for it: marks, and everything
+// around numbers and names, are steady.
 fn is_steady_fragment(fragment: &Fragment) -> bool
     ensures { result ≡ list_all is_steady (fragment_text fragment.now) }
 {

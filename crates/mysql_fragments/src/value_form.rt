@@ -1,4 +1,4 @@
-//! What is written for the values of fragments: literals in a form, or marks.
+//! The form in which the values of fragments are written: as literals, or as marks.
 ghost use Rattle.std.specs.Prelude.{◌≡◌, ◌++◌, IfOk, OnErr, Some, ⊤, codes};
 ghost use Rattle.mysql_binding.specs.LiteralForm.{Literals, LiteralFacts, written_literal};
 ghost use Rattle.mysql_binding.specs.PushedLiteral.{IsKnownUnlessFloat};
@@ -9,14 +9,14 @@ use std::alloc::AllocError;
 
 /// A form in which the values of fragments are written.
 pub(crate) trait ValueForm {
-    // what it writes for each value
+    // the text of each value
     ghost written: { Self → Literals };
 
-    // what is known of that
+    // the facts that are known about that text
     ghost IsKnown: { Self → LiteralFacts };
 
-    /// Writes what stands for a value to the end, and nothing for a value that it has nothing for.
-    /// If memory is refused, the text stays as it is.
+    /// Appends the text of a value in this form, and nothing if the form has no text for it. If
+    /// memory is refused, the text stays as it is.
     fn push(&self, text: &mut Vec<u8>, value: &Value) -> Result<(), AllocError>
         ensures text { IfOk result (λ done. text.new.items
             ≡ text.old.items ++ written_literal (written self.now) value.now) }
@@ -36,7 +36,7 @@ impl<F: LiteralForm> ValueForm for F {
     }
 }
 
-/// A mark for each value, as a prepared statement has it.
+/// A mark for each value, for a prepared statement.
 pub(crate) struct Marks;
 
 impl ValueForm for Marks {

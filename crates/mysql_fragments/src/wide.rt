@@ -22,12 +22,13 @@ use mysql_named_params::places::Reading;
 use std::alloc::Global;
 
 /// [`bind_fragments_in`](crate::bind_fragments_in) by wide names, as
-/// [`bind_wide_in`](mysql_binding::bind_wide_in) reads them: `:userIds` and `:ID` are names too,
-/// told apart by case. The entries of [`Fragments::Named`] have these names.
+/// [`bind_wide_in`](mysql_binding::bind_wide_in) reads them: `:userIds` and `:ID` are names too.
+/// Names that differ only in case are different names. The entries of [`Fragments::Named`] have
+/// these names.
 ///
-/// A query is refused for the same causes in the same order, over these names. So `x::Text` and
-/// `lbl:LOOP` are refused as places that don't stand alone. A query whose names have no capitals
-/// gives what it gives there.
+/// It refuses for the same causes in the same order, over these names. So `x::Text` and `lbl:LOOP`
+/// are refused as places that don't stand alone. For a query whose names have no capitals the
+/// result is the same as there.
 pub fn bind_wide_fragments_in(
     alloc: Global,
     query: &[u8],
@@ -50,8 +51,8 @@ pub fn bind_wide_fragments_in(
     bound_fragments(alloc, query, fragments, reading)
 }
 
-/// [`bind_wide_fragments_in`] in the mode in which a backslash escapes: with `false`. See there for
-/// what refuses it.
+/// [`bind_wide_fragments_in`] with `false`, in the mode in which a backslash escapes. It refuses
+/// for the same causes.
 pub fn bind_wide_fragments(
     alloc: Global,
     query: &[u8],
@@ -94,8 +95,9 @@ pub fn expanded_wide_query_in(
     expanded(alloc, query, fragments, reading, false)
 }
 
-/// [`bind_borrowed_fragments`](crate::bind_borrowed_fragments) of a query with wide names, as
-/// [`bind_wide_fragments_in`] reads them. Beside one, fragments by position are refused.
+/// [`bind_borrowed_fragments`](crate::bind_borrowed_fragments) for a query in which wide names are
+/// read, as [`bind_wide_fragments_in`] reads them. A query with such a name is refused, because the
+/// fragments are by position.
 pub fn bind_wide_borrowed_fragments(
     alloc: Global,
     query: &[u8],
@@ -120,8 +122,8 @@ pub fn bind_wide_borrowed_fragments(
     bind_borrowed_in(alloc, query, fragments, reading)
 }
 
-/// [`bind_borrowed_fragments_into`](crate::bind_borrowed_fragments_into) of a query with wide
-/// names, as [`bind_wide_fragments_in`] reads them.
+/// [`bind_borrowed_fragments_into`](crate::bind_borrowed_fragments_into) for a query in which wide
+/// names are read, as [`bind_wide_fragments_in`] reads them.
 pub fn bind_wide_borrowed_fragments_into(
     query: &[u8],
     fragments: &[FragmentRef<'_>],

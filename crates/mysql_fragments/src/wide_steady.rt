@@ -20,12 +20,12 @@ use mysql_portable::wide::first_unportable_wide;
 use std::alloc::Global;
 
 /// [`bind_fragments_anywhere`](crate::bind_fragments_anywhere) by wide names, as
-/// [`bind_wide_fragments_in`](crate::bind_wide_fragments_in) reads them: the query with its names
-/// in lower case has to be portable, as
-/// [`first_unportable_wide`](mysql_portable::wide::first_unportable_wide) finds it.
+/// [`bind_wide_fragments_in`](crate::bind_wide_fragments_in) reads them. The query with its names
+/// in lower case has to be portable:
+/// [`first_unportable_wide`](mysql_portable::wide::first_unportable_wide) finds nothing in it.
 ///
-/// It refuses for the same causes in the same order. Out of memory may also come in place of
-/// `Unportable`, and of the refusal of a query with names and marks, if a name has a capital.
+/// It refuses for the same causes in the same order. If a name has a capital, out of memory may
+/// also come in place of `Unportable`, and of the refusal of a query with names and marks.
 pub fn bind_wide_fragments_anywhere(
     alloc: Global,
     query: &[u8],
@@ -58,8 +58,8 @@ pub fn bind_wide_fragments_anywhere(
     }
 }
 
-/// [`bind_wide_fragments_anywhere`] for a query that is meant for one server: it needn't be
-/// portable, so `Unportable` never comes; all else is as there.
+/// [`bind_wide_fragments_anywhere`] for a query that is meant for one server. The query needn't be
+/// portable, so `Unportable` never comes. Everything else is the same.
 pub fn bind_wide_fragments_in_any_mode(
     alloc: Global,
     query: &[u8],

@@ -1,4 +1,4 @@
-//! The text of fragments, with what a form writes for their values, and these values.
+//! The text of fragments, with their values in a form, and these values.
 ghost use Rattle.std.specs.Prelude.{◌≡◌, ◌++◌, IfOk, OnErr, codes, map};
 ghost use Rattle.std.specs.Io.{StartsWith};
 ghost use Rattle.std.specs.List.{flat_map, list_any};
@@ -13,8 +13,8 @@ use crate::value_form::ValueForm;
 use mysql_values::value::Value;
 use std::alloc::AllocError;
 
-/// Writes the text of a fragment to the end, with its values in a form. If memory is refused, a
-/// part of it may stand behind what stood before.
+/// Appends the text of a fragment, with its values in a form. If memory is refused, a part of it
+/// may have been appended.
 pub(crate) fn push_fragment<F: ValueForm>(
     text: &mut Vec<u8>,
     fragment: &Fragment,

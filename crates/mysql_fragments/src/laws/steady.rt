@@ -18,12 +18,14 @@ ghost use Rattle.mysql_fragments.specs.SteadyFragments.{IsSteadyFragments};
 use crate::laws::{fragments_are_sent, fragments_in_clients, fragments_on_servers};
 use mysql_steady_text::laws::{bound_steady_texts_are_sent, bound_steady_texts_in_clients};
 
-/// A client that keeps comments cuts a text that is bound to a steady portable query with
-/// fragments, without `/*!`, `/*+` and `/*/` in a block comment, into as many statements as the
-/// query has, in either mode, whatever stands in the fragments and values (`count`). It reads the
-/// text as the grammar does, except for `--` before a newline and for what stands in quiet comments
-/// (`read`). If it decides about a quiet comment by the comment alone, it reads the tokens that it
-/// reads in the query, replaced (`tokens`); its statements are then those of the query, replaced
+/// If no block comment of a steady portable query holds `/*!`, `/*+` or `/*/`, a client that keeps
+/// comments cuts each steady text that is bound to it with fragments into as many statements as the
+/// query, in either mode (`count`). This holds for all fragments and values. The text has none of
+/// the three in a block comment either (`no_opener`). The client reads it as the grammar does,
+/// except for `--` before a newline and the contents of quiet comments (`read`).
+///
+/// If the client decides about a quiet comment by the comment only, it reads the tokens that it
+/// reads in the query, replaced (`tokens`). The statements are then those of the query, replaced
 /// (`statements`).
 pub fn steady_fragments_in_clients()
     ensures no_opener { (text : List ℕ) (ts : List Token) (given : GivenFragments) →
@@ -57,9 +59,9 @@ pub fn steady_fragments_in_clients()
     bound_steady_texts_in_clients();
 }
 
-/// A steady text of a query that is portable in a client is portable in a client too, in either
-/// mode, if no fragment has a newline or a byte 0, as names may, and none begins with a letter, as
-/// keywords do.
+/// If a steady query is portable in a client, then so is each steady text that is bound to it with
+/// fragments, in either mode. This requires that no fragment has a newline or a byte 0, and that
+/// none begins with a letter, as keywords do.
 pub fn steady_fragments_are_sent()
     ensures { (mode : Bool) (query text : List ℕ) (ts : List Token) (given : GivenFragments) →
         IsTokens mode query ts → IsSteady query → IsPortableInClient ts →
