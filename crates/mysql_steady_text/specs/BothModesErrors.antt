@@ -1,4 +1,4 @@
--- What each error of binding to a text for both modes stands for.
+-- The cause of each error of binding to a text for both modes.
 use Rattle.std.specs.Prelude.{◌≡◌, ℕ, Option, Some, None}
 use Rattle.mysql_portable.specs.declared.portable.Unportable.{Unportable}
 use Rattle.mysql_binding.specs.BindErrors.{IsCauseOrMemory, AreEqualBindErrors}
@@ -7,9 +7,9 @@ use Rattle.mysql_steady_text.specs.declared.both_modes_error.BothModesError.{Bot
 use Rattle.mysql_steady_text.specs.declared.both_modes_error.BothModesError.TheVariants.{Backslash, Bind}
 use Rattle.mysql_steady_text.specs.declared.both_modes_error.BothModesError.TheVariants as error
 
--- The error is the first that holds of a query with this first backslash in a string, this first
--- construct that isn't portable, and this first cause: that backslash; that construct; that cause,
--- or out of memory in place of it or of a text.
+-- The error is the first of these that a query has: its first backslash in a string; its first
+-- construct that isn't portable; its first cause. Out of memory may come in place of the cause or
+-- of a text.
 abbrev pub IsBothModesRefusal : Option ℕ → Option Unportable → Option Cause → BothModesError →
     Type 0
 IsBothModesRefusal backslash unportable cause (Backslash at) = backslash ≡ Some at

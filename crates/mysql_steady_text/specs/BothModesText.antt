@@ -1,9 +1,9 @@
--- What binding promises of the text that it gives for both modes and any server, also if the query
--- has bytes from 128 on: each value stands in one steady literal, and nothing else of the query
--- changes. `bind_text_in_both_modes` promises the second record, or else an error that says why not
--- (BothModesErrors.antt). The law `bound_texts_in_both_modes` says more of such a text. Nothing is
--- said of character sets: a server reads here the bytes that are sent. So the query's bytes have to
--- show over the connection's set as they are, as UTF-8 does over utf8mb4.
+-- The promises about a bound text for both modes and any server, also for a query with bytes from
+-- 128 on: each value is in one steady literal, and nothing else of the query changes.
+-- `bind_text_in_both_modes` promises the second record. If there is no text, an error reports the
+-- cause (BothModesErrors.antt). The law `bound_texts_in_both_modes` says more about such a text.
+-- Nothing is said about character sets: a server reads here the bytes that are sent. So the
+-- connection's set has to show the query's bytes as they are, as utf8mb4 does for UTF-8.
 use Rattle.std.specs.Prelude.{◌≡◌, ℕ, Bool, List, map, Some, None, Ok}
 use Rattle.mysql_values.specs.declared.value.Value.{Value}
 use Rattle.mysql_values.specs.Content.{content_of}
@@ -24,7 +24,7 @@ use Rattle.mysql_binding.specs.Replaced.{AreTokensOf, with_literal_tokens}
 use Rattle.mysql_steady_text.specs.SteadyReader.{read_steady_literal}
 use Rattle.mysql_steady_text.specs.SteadyShape.{AreSteadyLiterals, AreSteadyLiteralsOf}
 
--- the text, for both modes, of a query with these tokens and what is given to it
+-- the text, for both modes, of a query with these tokens and the parameters that are given to it
 pub record IsTextInBothModes (ts : List Token) (given : Given) (text : List ℕ) : Type 0 where
   -- There are the values that are given to the places, in order, the steady literal of each, the
   -- tokens of each literal, and the content of each value,
@@ -40,7 +40,7 @@ pub record IsTextInBothModes (ts : List Token) (given : Given) (text : List ℕ)
   -- exactly that text.
   pub reads_in_place : (mode : Bool) →
       AreReadInPlace (read_steady_literal mode) (pieces ts) literals contents
-  -- No backslash stands in a string of the text.
+  -- No string of the text has a backslash.
   pub no_escapes : HoldNoEscapes (with_literal_tokens ts literal_tokens)
   -- THE VALUES
   -- There is no cause to refuse,
@@ -54,7 +54,7 @@ pub record IsTextInBothModes (ts : List Token) (given : Given) (text : List ℕ)
   pub shapes : AreSteadyLiterals literals
   -- and the text is exactly the pieces of the query with one literal between each and the next.
   pub text_is : joined_text (pieces ts) literals ≡ Some text
-  -- The tokens of each literal are in either mode those that it has when it is read alone.
+  -- In either mode the tokens of each literal are those that it has when it is read on its own.
   pub tokens_of_literals : (mode : Bool) → AreTokensOf mode literals literal_tokens
   -- WHAT IT SAYS
   -- The contents are those of the values,
@@ -72,13 +72,13 @@ pub record IsPortableInBothModes (query : List ℕ) (ts : List Token) (given : G
   pub portable : IsPortable ts
   pub portable_text : IsPortable (with_literal_tokens ts text_in_both_modes.literal_tokens)
   -- On every honest server, in either mode, its tokens are those of the query, with those of one
-  -- literal in place of each name and mark: those that the grammar reads, except for `--` before a
-  -- newline and for what stands in quiet comments;
+  -- literal in place of each name and mark. They are the tokens that the grammar reads, except for
+  -- `--` before a newline and the contents of quiet comments.
   pub read : (server : Server) (mode : Bool) (vs : List Token) → IsHonest server →
       IsReadOn server mode text vs →
       IsReadAs (with_literal_tokens ts text_in_both_modes.literal_tokens) vs
-  -- and if the server decides about a quiet comment by its own text, exactly those that it reads in
-  -- the query.
+  -- If the server decides about a quiet comment by its own text, the tokens are exactly those that
+  -- it reads in the query, with the same literals in place of names and marks.
   pub tokens : (server : Server) (mode : Bool) (us : List Token) → IsHonest server →
       DecidesWithin server → IsReadOn server mode query us →
       IsReadOn server mode text (with_literal_tokens us text_in_both_modes.literal_tokens)

@@ -11,7 +11,7 @@ use Rattle.mysql_named_params.specs.Tokens.{Token, bytes_of, QuotedString}
 abbrev pub is_backslash : ℕ → Bool
 is_backslash b = b == byte "\\"
 
--- the position of the first backslash in a token that begins at this one, if it is a string
+-- the position of the first backslash in a token that begins at this position, if it is a string
 abbrev pub backslash_in : ℕ → Token → Option ℕ
 backslash_in at (QuotedString quote tail) = position_from is_backslash at (quote ∷ tail)
 backslash_in at t = None

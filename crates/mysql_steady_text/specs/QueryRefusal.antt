@@ -1,4 +1,4 @@
--- Why a query can't be bound for any server, whatever is given to it.
+-- Why a query can't be bound for any server with any parameters.
 use Rattle.std.specs.Prelude.{ℕ, List, Option, Some, None, option_map}
 use Rattle.mysql_named_params.specs.Tokens.{Token}
 use Rattle.mysql_portable.specs.FirstUnportable.{first_unportable}
@@ -12,6 +12,6 @@ abbrev pub refusal_by : Option ℕ → Option Unportable → Option SteadyTextEr
 refusal_by (Some at) found = Some (error.Unsteady at)
 refusal_by None found = option_map error.Unportable found
 
--- the refusal of a query of these tokens, whatever is given to it
+-- the refusal of a query with these tokens and any parameters
 abbrev pub query_refusal : List ℕ → List Token → Option SteadyTextError
 query_refusal query ts = refusal_by (first_unsteady query) (first_unportable ts)

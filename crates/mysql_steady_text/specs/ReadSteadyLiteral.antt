@@ -1,4 +1,4 @@
--- That the steady literal of a value reads as what the value says. The reader is handed on.
+-- The steady literal of a value reads as the content of the value. The reader is re-exported.
 use Rattle.std.specs.Prelude.{◌≡◌, ℕ, Bool, List, ◌++◌, Some, IsSomeAnd}
 use Rattle.mysql_sql_text.specs.ReadLiteral.{Content}
 use Rattle.mysql_sql_text.specs.LiteralEnd.{BeginsWithout, continues_literal}
@@ -13,6 +13,6 @@ ReadsSteadyBefore literal content =
     (mode : Bool) (rest : List ℕ) → BeginsWithout continues_literal rest
     → read_steady_literal mode (literal ++ rest) ≡ Some (content, rest)
 
--- it reads so as the content of a value
+-- the literal reads so as the content of the value
 abbrev pub ReadsSteadyAs : Value → List ℕ → Type 0
 ReadsSteadyAs value literal = IsSomeAnd (content_of value) (ReadsSteadyBefore literal)

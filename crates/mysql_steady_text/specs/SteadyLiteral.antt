@@ -1,7 +1,7 @@
--- The steady literal of a value, which both modes and every character set read alike. A text stands
--- after the introducer `_utf8mb4`, by which its bytes are utf8mb4 whatever the connection's set is
--- (MySQL Reference Manual, "Character Set Introducers"): between quotes if it is printable ASCII
--- without a backslash, else in hexadecimal digits.
+-- The steady literal of a value, which is read alike in both modes and over every character set. A
+-- text is written after the introducer `_utf8mb4`, so its bytes are utf8mb4 over any connection's
+-- set (MySQL Reference Manual, "Character Set Introducers"). It is in quotes if it is printable
+-- ASCII without a backslash, else in hexadecimal digits.
 use Rattle.std.specs.Prelude.{ℕ, nat_le, Bool, ◌&&◌, List, ◌++◌, codes, Option, Some, if◌then◌else◌, unwrap_or, []}
 use Rattle.std.specs.List.{list_all}
 use Rattle.std.specs.Str.{is_utf8}
@@ -16,8 +16,8 @@ use Rattle.mysql_portable.specs.SteadyBytes.{is_no_backslash}
 abbrev pub is_spelled_out : ℕ → Bool
 is_spelled_out b = nat_le 32 b && (nat_le b 126 && is_no_backslash b)
 
--- The literal of bytes: `_utf8mb4'it''s'`, of no bytes `_utf8mb4''`; other UTF-8 as
--- `_utf8mb4 0xC3A9`; and bytes that aren't UTF-8 as `0xFF`.
+-- The literal of bytes: `_utf8mb4'it''s'`, and `_utf8mb4''` for no bytes; `_utf8mb4 0xC3A9` for
+-- other UTF-8; and `0xFF` for bytes that aren't UTF-8.
 abbrev pub steady_bytes_literal : List ℕ → List ℕ
 steady_bytes_literal bytes =
     if list_all is_spelled_out bytes

@@ -1,5 +1,5 @@
--- What is known of the steady literal of a value. Steady literals, one after another, are handed
--- on.
+-- The facts about the steady literal of a value. The definitions for several steady literals are
+-- re-exported.
 use Rattle.mysql_portable.specs.SteadyBytes.{IsSteady}
 use Rattle.mysql_binding.specs.LiteralForm.{LiteralFacts}
 use Rattle.mysql_steady_text.specs.ReadSteadyLiteral.{ReadsSteadyAs}

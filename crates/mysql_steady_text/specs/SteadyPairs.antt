@@ -1,4 +1,4 @@
--- What each error of binding borrowed pairs to a steady text, or to one for both modes, stands for.
+-- The cause of each error of binding borrowed pairs to a steady text, or to one for both modes.
 use Rattle.std.specs.Prelude.{◌≡◌, ◌<◌, ◌⊎◌, ℕ, Bool, List, Option, alloc_error, length}
 use Rattle.std.specs.Borrow.{Bor}
 use Rattle.mysql_values.specs.declared.value.ValueRef.{ValueRef}
@@ -22,8 +22,8 @@ use Rattle.mysql_steady_text.specs.declared.steady_pairs_error.SteadyPairsError.
 use Rattle.mysql_steady_text.specs.declared.both_modes_pairs_error.BothModesPairsError.{BothModesPairsError}
 use Rattle.mysql_steady_text.specs.declared.both_modes_pairs_error.BothModesPairsError.TheVariants as both
 
--- the pairs make no parameters, since the name of this pair stands before it too; or they are many,
--- and out of memory comes before they are told apart
+-- the pairs make no parameters, because an earlier pair has the name of this pair; or they are
+-- many, and out of memory comes before their names are compared
 abbrev pub AreNoPairs : List (Bor (List ℕ) × ValueRef) → SteadyPairsError → Type 0
 AreNoPairs pairs (Redefined index) = IsFirstRedefined pairs index
 AreNoPairs pairs (Bind error) =
@@ -36,20 +36,20 @@ IsPairsRefusal IsRefusal pairs (Redefined index) = IsFirstRedefined pairs index
 IsPairsRefusal IsRefusal pairs (Bind error) =
     AreNoPairs pairs (Bind error) ⊎ OfPairs pairs (λ given. IsRefusal given error)
 
--- The same of this query. The construct that isn't portable, if it is looked for, is the one that
+-- The same for this query. The construct that isn't portable, if one is looked for, is the one that
 -- is found among the query's tokens.
 abbrev pub IsSteadyPairsRefusal : List ℕ → (List Token → Option Unportable)
     → List (Bor (List ℕ) × ValueRef) → SteadyPairsError → Type 0
 IsSteadyPairsRefusal query unportable = IsPairsRefusal (λ given error. (mode : Bool) →
     OnTokens mode query (λ ts. IsSteadyRefusal query (unportable ts) (first_cause ts given) error))
 
--- the first of these, of a text for both modes
+-- `AreNoPairs` for a text for both modes
 abbrev pub AreNoPairsInBothModes : List (Bor (List ℕ) × ValueRef) → BothModesPairsError → Type 0
 AreNoPairsInBothModes pairs (both.Redefined index) = IsFirstRedefined pairs index
 AreNoPairsInBothModes pairs (both.Bind error) =
     (few_pairs < length pairs) × (error ≡ modes.Bind (Memory alloc_error))
 
--- the second
+-- `IsPairsRefusal` for a text for both modes
 abbrev pub IsPairsRefusalInBothModes : (IsRefusal : Given → BothModesError → Type 0)
     → List (Bor (List ℕ) × ValueRef) → BothModesPairsError → Type 0
 IsPairsRefusalInBothModes IsRefusal pairs (both.Redefined index) = IsFirstRedefined pairs index
@@ -57,7 +57,7 @@ IsPairsRefusalInBothModes IsRefusal pairs (both.Bind error) =
     AreNoPairsInBothModes pairs (both.Bind error)
     ⊎ OfPairs pairs (λ given. IsRefusal given error)
 
--- the second of this query
+-- the same for this query
 abbrev pub IsBothModesPairsRefusal : List ℕ → List (Bor (List ℕ) × ValueRef)
     → BothModesPairsError → Type 0
 IsBothModesPairsRefusal query = IsPairsRefusalInBothModes (λ given error. (mode : Bool) →

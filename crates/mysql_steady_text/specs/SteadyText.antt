@@ -1,8 +1,8 @@
--- What binding promises of the text that it gives for any mode, and for any server: each value
--- stands in one steady literal, and nothing else of the query changes. `bind_text_in_any_mode`
--- promises the first record, and `bind_text_anywhere` the second, or else an error that says why
--- not (SteadyTextErrors.antt). The laws `bound_steady_texts`, `bound_steady_texts_in_clients` and
--- `bound_steady_texts_are_sent` say more of such a text.
+-- The promises about a bound text for any mode, and for any server: each value is in one steady
+-- literal, and nothing else of the query changes. `bind_text_in_any_mode` promises the first
+-- record, and `bind_text_anywhere` the second. If there is no text, an error reports the cause
+-- (SteadyTextErrors.antt). The laws `bound_steady_texts`, `bound_steady_texts_in_clients` and
+-- `bound_steady_texts_are_sent` say more about such a text.
 use Rattle.std.specs.Prelude.{◌≡◌, ℕ, Bool, List, map, Some, None, Ok}
 use Rattle.mysql_values.specs.declared.value.Value.{Value}
 use Rattle.mysql_values.specs.Content.{content_of}
@@ -23,7 +23,7 @@ use Rattle.mysql_binding.specs.Replaced.{AreTokensOf, with_literal_tokens}
 use Rattle.mysql_steady_text.specs.SteadyReader.{read_steady_literal}
 use Rattle.mysql_steady_text.specs.SteadyShape.{AreSteadyLiterals, AreSteadyLiteralsOf}
 
--- the text, for any mode, of a query with these tokens and what is given to it
+-- the text, for any mode, of a query with these tokens and the parameters that are given to it
 pub record IsSteadyText (ts : List Token) (given : Given) (text : List ℕ) : Type 0 where
   -- There are the values that are given to the places, in order, the steady literal of each, the
   -- tokens of each literal, and the content of each value,
@@ -53,7 +53,7 @@ pub record IsSteadyText (ts : List Token) (given : Given) (text : List ℕ) : Ty
   pub shapes : AreSteadyLiterals literals
   -- and the text is exactly the pieces of the query with one literal between each and the next.
   pub text_is : joined_text (pieces ts) literals ≡ Some text
-  -- The tokens of each literal are in either mode those that it has when it is read alone.
+  -- In either mode the tokens of each literal are those that it has when it is read on its own.
   pub tokens_of_literals : (mode : Bool) → AreTokensOf mode literals literal_tokens
   -- WHAT IT SAYS
   -- The contents are those of the values,
@@ -72,13 +72,13 @@ pub record IsAnywhereText (query : List ℕ) (ts : List Token) (given : Given) (
   pub portable : IsPortable ts
   pub portable_text : IsPortable (with_literal_tokens ts steady_text.literal_tokens)
   -- On every honest server, in either mode and over every character set, its tokens are those of
-  -- the query, with those of one literal in place of each name and mark: those that the grammar
-  -- reads, except for `--` before a newline and for what stands in quiet comments;
+  -- the query, with those of one literal in place of each name and mark. They are the tokens that
+  -- the grammar reads, except for `--` before a newline and the contents of quiet comments.
   pub read : (server : Server) (mode : Bool) (set : CharacterSet) (vs : List Token) →
       IsHonest server → IsReadOn server mode (seen set text) vs →
       IsReadAs (with_literal_tokens ts steady_text.literal_tokens) vs
-  -- and if the server decides about a quiet comment by its own text, exactly those that it reads in
-  -- the query.
+  -- If the server decides about a quiet comment by its own text, the tokens are exactly those that
+  -- it reads in the query, with the same literals in place of names and marks.
   pub tokens : (server : Server) (mode : Bool) (set : CharacterSet) (us : List Token) →
       IsHonest server → DecidesWithin server → IsReadOn server mode (seen set query) us →
       IsReadOn server mode (seen set text)

@@ -1,4 +1,4 @@
--- What each error of binding to a steady text stands for.
+-- The cause of each error of binding to a steady text.
 use Rattle.std.specs.Prelude.{◌≡◌, ℕ, List, Option, Some, None}
 use Rattle.mysql_portable.specs.Steady.{first_unsteady}
 use Rattle.mysql_portable.specs.declared.portable.Unportable.{Unportable}
@@ -13,9 +13,9 @@ abbrev pub IsBindRefusal : Option Cause → SteadyTextError → Type 0
 IsBindRefusal cause (Bind error) = IsCauseOrMemory cause error
 IsBindRefusal cause error = ⊥
 
--- The error is the first that holds of a query with this first construct that isn't portable, if it
--- is looked for, and with this first cause: its first byte that isn't steady; that construct; that
--- cause, or out of memory in place of it or of a text.
+-- The error is the first of these that a query has: its first byte that isn't steady; its first
+-- construct that isn't portable, if one is looked for; its first cause. Out of memory may come in
+-- place of the cause or of a text.
 abbrev pub IsSteadyRefusal : List ℕ → Option Unportable → Option Cause → SteadyTextError → Type 0
 IsSteadyRefusal query unportable cause (Unsteady at) = first_unsteady query ≡ Some at
 IsSteadyRefusal query unportable cause (error.Unportable found) =

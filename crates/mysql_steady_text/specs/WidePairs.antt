@@ -1,5 +1,5 @@
--- What each error of binding borrowed pairs by wide names to a steady text, or to one for both
--- modes, stands for.
+-- The cause of each error of binding borrowed pairs by wide names to a steady text, or to one for
+-- both modes.
 use Rattle.std.specs.Prelude.{ℕ, Bool, List, None}
 use Rattle.std.specs.Borrow.{Bor}
 use Rattle.mysql_values.specs.declared.value.ValueRef.{ValueRef}
@@ -15,20 +15,20 @@ use Rattle.mysql_steady_text.specs.WideBothModes.{IsWideBothModesRefusal}
 use Rattle.mysql_steady_text.specs.declared.both_modes_pairs_error.BothModesPairsError.{BothModesPairsError}
 use Rattle.mysql_steady_text.specs.declared.steady_pairs_error.SteadyPairsError.{SteadyPairsError}
 
--- of a text for any mode and any server
+-- the error, for a text for any mode and any server
 abbrev pub IsWideAnywherePairsRefusal : List ℕ → List (Bor (List ℕ) × ValueRef) → SteadyPairsError
     → Type 0
 IsWideAnywherePairsRefusal query = IsPairsRefusal (λ given error. (mode : Bool) →
     OnWideTokens mode query (λ ts.
     IsWideSteadyRefusal query (first_unportable (lower_names ts)) (first_cause ts given) error))
 
--- of a text for any mode
+-- the error, for a text for any mode
 abbrev pub IsWideSteadyPairsRefusal : List ℕ → List (Bor (List ℕ) × ValueRef) → SteadyPairsError
     → Type 0
 IsWideSteadyPairsRefusal query = IsPairsRefusal (λ given error. (mode : Bool) →
     OnWideTokens mode query (λ ts. IsSteadyRefusal query None (first_cause ts given) error))
 
--- of a text for both modes and any server
+-- the error, for a text for both modes and any server
 abbrev pub IsWideBothModesPairsRefusal : List ℕ → List (Bor (List ℕ) × ValueRef)
     → BothModesPairsError → Type 0
 IsWideBothModesPairsRefusal query = IsPairsRefusalInBothModes (λ given error. (mode : Bool) →

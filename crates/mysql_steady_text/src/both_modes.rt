@@ -23,18 +23,17 @@ use mysql_portable::portable::first_unportable;
 use std::alloc::Global;
 
 /// [`bind_text_anywhere`](crate::bind_text_anywhere) for a query that may hold bytes from 128 on,
-/// as `SELECT * FROM bücher WHERE t = :a`: the text that no `sql_mode` reads otherwise, on any
-/// server. The literals are those that are written there.
+/// such as `SELECT * FROM bücher WHERE t = :a`. No `sql_mode` changes how any server reads the
+/// text. The literals are the same as there.
 ///
-/// The connection's character set has to be that of the query's own bytes, utf8mb4 for UTF-8: over
-/// another, as gbk, such a byte may take the backquote after it.
+/// The connection's character set has to be that of the query's own bytes: utf8mb4 for UTF-8. Over
+/// another set, such as gbk, a byte from 128 on may take the backquote after it.
 ///
-/// The first of these causes refuses it: `Backslash`, a backslash in a string of the query, as the
-/// grammar has it, so also in a text in `"`; elsewhere, as in an identifier in backquotes or a
-/// comment, it stays. `Unportable`, a construct that
-/// [`first_unportable`](mysql_portable::portable::first_unportable) finds; `Bind`, what
-/// [`bind_text`](mysql_binding::bind_text) refuses, in its order. The parameters are consumed, even
-/// if the call refuses.
+/// The first of these causes refuses it: `Backslash`, a backslash in a string of the query;
+/// `Unportable`, a construct that [`first_unportable`](mysql_portable::portable::first_unportable)
+/// finds; `Bind`, a cause of [`bind_text`](mysql_binding::bind_text), in its order. A text in `"`
+/// is a string too. Elsewhere, such as in an identifier in backquotes or a comment, a backslash
+/// stays. The parameters are consumed, even if the call refuses.
 ///
 /// Out of memory may come in place of any text or cause after `Unportable`, except for a query with
 /// names and marks.

@@ -17,7 +17,7 @@ pub enum BothModesError {
     /// The query isn't portable; the first construct is reported.
     #[error("Not portable at byte {} of the query: {}", .0.at, .0.construct)]
     Unportable(Unportable),
-    /// What [`bind_text`](mysql_binding::bind_text) refuses, or out of memory.
+    /// A cause of [`bind_text`](mysql_binding::bind_text), or out of memory.
     #[error(transparent)]
     Bind(BindError),
 }

@@ -4,8 +4,8 @@ use thiserror::Error;
 
 /// Why [`bind_pairs_in_both_modes`](crate::bind_pairs_in_both_modes) gave no text.
 ///
-/// Of at most 64 pairs it is the first cause, in this order. Of more, out of memory may come before
-/// a name that is given twice.
+/// For at most 64 pairs it is the first cause, in this order. For more, out of memory may come
+/// before a name that is given twice.
 #[derive(Debug, PartialEq, Drop, Error)]
 pub enum BothModesPairsError {
     /// The name of a pair is that of an earlier one; the first such pair is reported.
@@ -14,7 +14,7 @@ pub enum BothModesPairsError {
         /// Its number among the pairs, from 0.
         index: usize,
     },
-    /// What [`bind_text_in_both_modes`](crate::bind_text_in_both_modes) refuses, or out of memory.
+    /// A cause of [`bind_text_in_both_modes`](crate::bind_text_in_both_modes), or out of memory.
     #[error(transparent)]
     Bind(BothModesError),
 }

@@ -7,7 +7,7 @@ ghost use Rattle.mysql_steady_text.specs.FirstBackslash.{first_backslash, is_bac
 use memchr::memchr;
 use mysql_named_params::tokens::first_token;
 
-// Where the first backslash stands in a token of these bytes, if it is a string.
+// The position of the first backslash in a token of these bytes, if it is a string.
 fn backslash_in(token: &[u8]) -> Option<usize>
     ensures string { IsTrue (begins is_string_quote token.now) →
         result ≡ position is_backslash token.now }
@@ -19,7 +19,7 @@ fn backslash_in(token: &[u8]) -> Option<usize>
     }
 }
 
-// Where the first backslash of a text stands.
+// The position of the first backslash in a text.
 fn backslash_position(text: &[u8]) -> Option<usize>
     ensures { result ≡ position is_backslash text.now }
 {
@@ -27,7 +27,7 @@ fn backslash_position(text: &[u8]) -> Option<usize>
 }
 
 /// The position of the first backslash in a string of the query, the same in both modes. It
-/// allocates nothing. It is lent to the crates above.
+/// allocates nothing. For the crates above.
 pub fn first_backslash(query: &[u8]) -> Option<usize>
     ensures { (mode : Bool) → OnTokens mode query.now (λ ts. result ≡ first_backslash ts) }
 {

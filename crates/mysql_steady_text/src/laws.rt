@@ -32,9 +32,9 @@ use crate::steady_pairs_error::SteadyPairsError;
 use crate::steady_text_error::SteadyTextError;
 pub use literals::{borrowed_steady_literals, steady_literals};
 
-/// Whatever texts of the shape of steady literals stand in the places of a query, if these stand
-/// alone, then in either mode the tokens are the query's, with those of each text in place of its
-/// name or mark, and no place is left among them.
+/// For a query whose places stand alone, and any texts of the shape of steady literals in these
+/// places: in either mode the tokens are the query's, with those of each text in place of its name
+/// or mark (`tokens`). No place is left among them (`no_place`).
 pub fn steady_isolation()
     ensures tokens { (mode : Bool) (query text : List ℕ) (ts : List Token)
         (literals : List (List ℕ)) (lists : List (List Token)) → IsTokens mode query ts →
@@ -52,11 +52,12 @@ pub fn steady_isolation()
         AreTokensOf other literals lists }
 {}
 
-/// If each token of the query passes its test, as those of a portable query do, then so does each
-/// token of the text. On every honest server, in either mode, its tokens are those that the grammar
-/// reads, except for `--` before a newline and for what stands in quiet comments (`read`); and if
-/// the server decides about a quiet comment by its own text, exactly those that it reads in the
-/// query (`tokens`). If the query is steady, every character set shows the text as it is.
+/// If each token of the query passes its test, like those of a portable query, then so does each
+/// token of the text (`portable`). Every honest server, in either mode, reads the tokens that the
+/// grammar reads, except for `--` before a newline and the contents of quiet comments (`read`). If
+/// the server decides about a quiet comment by its own text, it reads exactly the tokens that it
+/// reads in the query, with those of each literal in place of its name or mark (`tokens`). If the
+/// query is steady, every character set shows the text as it is (`seen`).
 pub fn steady_texts_on_servers()
     ensures portable { (mode : Bool) (query text : List ℕ) (ts : List Token)
         (literals : List (List ℕ)) (lists : List (List Token)) → IsTokens mode query ts →
@@ -81,14 +82,15 @@ pub fn steady_texts_on_servers()
         seen set text ≡ text }
 {}
 
-/// A client that keeps comments cuts the text into as many statements as the query has, if each
-/// token of the query passes its test and no block comment of it holds `/*!`, `/*+` or `/*/`
-/// (`count`). The text has none of the three in a block comment either (`no_opener`), and the
-/// client reads it as the grammar does, except for `--` before a newline and for what stands in
-/// quiet comments (`read`). If it decides about a quiet comment by the comment alone, it reads the
-/// tokens that it reads in the query, with those of one literal in place of each name and mark
-/// (`tokens`); its statements are then those of the query, with literals in their places
-/// (`statements`).
+/// If each token of the query passes its test and no block comment in it holds `/*!`, `/*+` or
+/// `/*/`, a client that keeps comments cuts the text into as many statements as the query
+/// (`count`). The text has none of the three in a block comment either (`no_opener`). The client
+/// reads it as the grammar does, except for `--` before a newline and the contents of quiet
+/// comments (`read`).
+///
+/// If the client decides about a quiet comment by the comment only, it reads the tokens that it
+/// reads in the query, with those of one literal in place of each name and mark (`tokens`). The
+/// statements are then those of the query, with literals in their places (`statements`).
 pub fn steady_texts_in_clients()
     ensures no_opener { (mode : Bool) (ts : List Token) (literals : List (List ℕ))
         (lists : List (List Token)) → AreSteadyLiterals literals →
@@ -118,7 +120,8 @@ pub fn steady_texts_in_clients()
         ≡ statements_with_literals (statements us) lists }
 {}
 
-/// What [`steady_texts_in_clients`] says, of the steady text of a query and what is given to it.
+/// [`steady_texts_in_clients`] for the steady text of a query and the parameters that are given to
+/// it.
 pub fn bound_steady_texts_in_clients()
     ensures no_opener { (text : List ℕ) (ts : List Token) (given : Given) →
         (b : IsSteadyText ts given text) → HoldNoOpener ts →
@@ -145,7 +148,8 @@ pub fn bound_steady_texts_in_clients()
 }
 
 /// If a client sends the query as it is, it sends the text as it is (`sent`). If the query is
-/// portable in a client, so is the text (`portable`). No literal may have a newline or a byte 0.
+/// portable in a client, so is the text (`portable`). This requires that no literal has a newline
+/// or a byte 0.
 pub fn steady_texts_are_sent()
     ensures sent { (mode : Bool) (query text : List ℕ) (ts : List Token)
         (literals : List (List ℕ)) (lists : List (List Token)) → IsTokens mode query ts →
@@ -161,8 +165,9 @@ pub fn steady_texts_are_sent()
         IsPortableInClient (with_literal_tokens ts lists) }
 {}
 
-/// What [`steady_texts_are_sent`] says, of the steady text of a query and what is given to it: no
-/// steady literal of a value has a newline or a byte 0.
+/// [`steady_texts_are_sent`] for the steady text of a query and the parameters that are given to
+/// it. It requires nothing of the literals, because no steady literal of a value has a newline or a
+/// byte 0.
 pub fn bound_steady_texts_are_sent()
     ensures { (mode : Bool) (query text : List ℕ) (ts : List Token) (given : Given) →
         IsTokens mode query ts → (b : IsSteadyText ts given text) → AreReadAlike ts →
@@ -190,7 +195,7 @@ pub fn bound_steady_texts()
         map content_of x.values ≡ map content_of y.values }
 {}
 
-/// The same of a text for both modes.
+/// [`bound_steady_texts`] for a text for both modes.
 pub fn bound_texts_in_both_modes()
     ensures none { (mode : Bool) (ts us : List Token) (given : Given) (text : List ℕ) →
         IsTextInBothModes ts given text → IsTokens mode text us → place_count us ≡ 0 }

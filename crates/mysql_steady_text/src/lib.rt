@@ -2,11 +2,12 @@
 //! query with the steady literals of values in its places.
 //!
 //! [`bind_text_anywhere`] is the call for any server, and [`bind_text_in_any_mode`] for one.
-//! `specs/SteadyText.antt` says what they promise of the text. [`bind_text_in_both_modes`] takes
-//! bytes from 128 on, and then the character set has to be right (`specs/BothModesText.antt`).
+//! `specs/SteadyText.antt` defines their promises. [`bind_text_in_both_modes`] also takes a query
+//! with bytes from 128 on. The connection's character set then has to be that of the query
+//! (`specs/BothModesText.antt`).
 //!
 //! [`steady_literal`] has the length and the text of a steady literal, and
-//! `specs/SteadyLiteral.antt` says what it is.
+//! `specs/SteadyLiteral.antt` defines it.
 #![tactic(auto)]
 
 mod both_modes;

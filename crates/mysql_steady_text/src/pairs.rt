@@ -1,5 +1,4 @@
-//! Queries bound to steady texts, and to those for both modes, from names and values that are
-//! borrowed.
+//! Queries bound to steady texts, and to texts for both modes, from borrowed names and values.
 ghost use Rattle.std.specs.Prelude.{◌≡◌, ℕ, Bool, None, Ok, Some, map, IfErr, IfOk, IfSome, IsErrOf};
 ghost use Rattle.mysql_named_params.specs.Tokens.{OnTokens};
 ghost use Rattle.mysql_named_params.specs.Places.{HasMark, HasName};
@@ -31,12 +30,12 @@ use mysql_params_core::params::{BorrowedParams, NamedPairs};
 use mysql_values::value::ValueRef;
 use std::alloc::Global;
 
-/// [`bind_text_anywhere`](crate::bind_text_anywhere) of named parameters that are borrowed, in
-/// pairs: no name and no value is copied. Of more than 64 pairs a sorted map is made.
+/// [`bind_text_anywhere`](crate::bind_text_anywhere) for borrowed named parameters, in pairs: no
+/// name and no value is copied. For more than 64 pairs a sorted map is made.
 ///
-/// A name that is given twice is refused first. Then what
-/// [`bind_text_anywhere`](crate::bind_text_anywhere) refuses is refused, in its order. Of more than
-/// 64 pairs out of memory may come before either.
+/// A name that is given twice is refused first. Then it refuses for the causes of
+/// [`bind_text_anywhere`](crate::bind_text_anywhere), in their order. For more than 64 pairs, out
+/// of memory may come before either.
 pub fn bind_pairs_anywhere(
     alloc: Global,
     query: &[u8],
@@ -50,7 +49,8 @@ pub fn bind_pairs_anywhere(
     ensures by_position { IfOk result (λ text. OfPairs pairs.now (λ given. (mode : Bool) →
         OnTokens mode query.now (λ ts. IsSteadyByPosition mode ts given text.items))) }
 
-    // These are refused without allocating, if there are at most 64 pairs and no name stands twice.
+    // These are refused without allocating, if there are at most 64 pairs and no name is given
+    // twice.
     ensures unsteady { IfFewPairs pairs.now (λ given. (at : ℕ) →
         first_unsteady query.now ≡ Some at →
         IsErrOf result (SteadyPairsError.Bind (SteadyTextError.Unsteady at))) }
@@ -71,8 +71,8 @@ pub fn bind_pairs_anywhere(
     Ok(bind_borrowed_anywhere(alloc, query, params)?)
 }
 
-/// [`bind_text_anywhere`](crate::bind_text_anywhere) of borrowed values by position: no value is
-/// copied. It refuses what that refuses.
+/// [`bind_text_anywhere`](crate::bind_text_anywhere) for borrowed values by position: no value is
+/// copied. It refuses for the same causes.
 pub fn bind_values_anywhere(
     alloc: Global,
     query: &[u8],
@@ -100,9 +100,9 @@ pub fn bind_values_anywhere(
     bind_borrowed_anywhere(alloc, query, BorrowedParams::Values(values))
 }
 
-/// [`bind_pairs_anywhere`] for a query that is meant for one server, as
+/// [`bind_pairs_anywhere`] for a query that is meant for one server, like
 /// [`bind_text_in_any_mode`](crate::bind_text_in_any_mode): the query needn't be portable, so
-/// `Unportable` never comes; all else is as there.
+/// `Unportable` never comes. Everything else is the same.
 pub fn bind_pairs_in_any_mode(
     alloc: Global,
     query: &[u8],
@@ -115,7 +115,8 @@ pub fn bind_pairs_in_any_mode(
     ensures by_position { IfOk result (λ text. OfPairs pairs.now (λ given. (mode : Bool) →
         OnTokens mode query.now (λ ts. IsSteadyByPosition mode ts given text.items))) }
 
-    // These are refused without allocating, if there are at most 64 pairs and no name stands twice.
+    // These are refused without allocating, if there are at most 64 pairs and no name is given
+    // twice.
     ensures unsteady { IfFewPairs pairs.now (λ given. (at : ℕ) →
         first_unsteady query.now ≡ Some at →
         IsErrOf result (SteadyPairsError.Bind (SteadyTextError.Unsteady at))) }
@@ -131,9 +132,9 @@ pub fn bind_pairs_in_any_mode(
     Ok(bind_borrowed_in_any_mode(alloc, query, params)?)
 }
 
-/// [`bind_values_anywhere`] for a query that is meant for one server, as
+/// [`bind_values_anywhere`] for a query that is meant for one server, like
 /// [`bind_text_in_any_mode`](crate::bind_text_in_any_mode): the query needn't be portable, so
-/// `Unportable` never comes; all else is as there.
+/// `Unportable` never comes. Everything else is the same.
 pub fn bind_values_in_any_mode(
     alloc: Global,
     query: &[u8],
@@ -156,12 +157,12 @@ pub fn bind_values_in_any_mode(
     bind_borrowed_in_any_mode(alloc, query, BorrowedParams::Values(values))
 }
 
-/// [`bind_text_in_both_modes`](crate::bind_text_in_both_modes) of named parameters that are
-/// borrowed, in pairs: no name and no value is copied. Of more than 64 pairs a sorted map is made.
+/// [`bind_text_in_both_modes`](crate::bind_text_in_both_modes) for borrowed named parameters, in
+/// pairs: no name and no value is copied. For more than 64 pairs a sorted map is made.
 ///
-/// A name that is given twice is refused first. Then what
-/// [`bind_text_in_both_modes`](crate::bind_text_in_both_modes) refuses is refused, in its order. Of
-/// more than 64 pairs out of memory may come before either.
+/// A name that is given twice is refused first. Then it refuses for the causes of
+/// [`bind_text_in_both_modes`](crate::bind_text_in_both_modes), in their order. For more than 64
+/// pairs, out of memory may come before either.
 pub fn bind_pairs_in_both_modes(
     alloc: Global,
     query: &[u8],
@@ -174,7 +175,8 @@ pub fn bind_pairs_in_both_modes(
     ensures by_position { IfOk result (λ text. OfPairs pairs.now (λ given. (mode : Bool) →
         OnTokens mode query.now (λ ts. IsByPositionInBothModes mode ts given text.items))) }
 
-    // These are refused without allocating, if there are at most 64 pairs and no name stands twice.
+    // These are refused without allocating, if there are at most 64 pairs and no name is given
+    // twice.
     ensures backslash { IfFewPairs pairs.now (λ given. (mode : Bool) →
         OnTokens mode query.now (λ ts. (at : ℕ) → first_backslash ts ≡ Some at →
         IsErrOf result (BothModesPairsError.Bind (BothModesError.Backslash at)))) }
@@ -195,8 +197,8 @@ pub fn bind_pairs_in_both_modes(
     Ok(bind_borrowed_in_both_modes(alloc, query, params)?)
 }
 
-/// [`bind_text_in_both_modes`](crate::bind_text_in_both_modes) of borrowed values by position: no
-/// value is copied. It refuses what that refuses.
+/// [`bind_text_in_both_modes`](crate::bind_text_in_both_modes) for borrowed values by position: no
+/// value is copied. It refuses for the same causes.
 pub fn bind_values_in_both_modes(
     alloc: Global,
     query: &[u8],
@@ -224,8 +226,8 @@ pub fn bind_values_in_both_modes(
     bind_borrowed_in_both_modes(alloc, query, BorrowedParams::Values(values))
 }
 
-// Why the pairs make no parameters, or memory is refused for more than 64 of them; none if they
-// make parameters.
+// Why the pairs make no parameters, or out of memory for more than 64 pairs; `None` if they make
+// parameters.
 pub(crate) fn steady_pairs_refusal(
     alloc: Global,
     pairs: &NamedPairs<'_>,
@@ -242,8 +244,8 @@ pub(crate) fn steady_pairs_refusal(
     }
 }
 
-// Why the pairs make no parameters, or memory is refused for more than 64 of them; none if they
-// make parameters.
+// Why the pairs make no parameters, or out of memory for more than 64 pairs; `None` if they make
+// parameters.
 pub(crate) fn both_modes_pairs_refusal(
     alloc: Global,
     pairs: &NamedPairs<'_>,

@@ -16,10 +16,10 @@ use mysql_binding::LiteralForm;
 use mysql_sql_text::strings::{fill_hexadecimal, fill_string, string_len};
 use mysql_values::value::{Value, ValueRef};
 
-// What stands before a string, and before hexadecimal digits.
+// The introducer before a string or hexadecimal digits.
 const INTRODUCER: &[u8] = b"_utf8mb4";
 
-/// How many bytes the steady literal of a value has.
+/// The number of bytes of the steady literal of a value.
 ///
 /// `None` exactly for `Float` and `Double`, which have no literal. It allocates nothing. The length
 /// may be above `isize::MAX`, and then no slice is that long.
@@ -35,8 +35,8 @@ pub fn steady_len(value: &Value) -> Option<u128>
 
 /// Writes the steady literal of a value over the whole of `room`.
 ///
-/// It can be called only if the value has a literal, so is no float, and `room` is exactly as long
-/// as [`steady_len`] says. Nothing is allocated, and nothing is refused.
+/// It can be called only if the value has a literal, so isn't a float, and `room` has exactly the
+/// length that [`steady_len`] returns. Nothing is allocated, and nothing is refused.
 pub fn put_steady(value: &Value, room: &mut [u8])
     requires { option_map length (steady_literal_of value.now) ≡ Some (length room.old) }
     ensures exact { steady_literal_of value.now ≡ Some room.new }
@@ -47,7 +47,7 @@ pub fn put_steady(value: &Value, room: &mut [u8])
     fill_literal(value, room);
 }
 
-/// How many bytes the steady literal of a borrowed value has.
+/// The number of bytes of the steady literal of a borrowed value.
 ///
 /// `None` exactly for `Float` and `Double`, which have no literal. It allocates nothing. The length
 /// may be above `isize::MAX`, and then no slice is that long.
@@ -63,8 +63,8 @@ pub fn borrowed_steady_len(value: ValueRef<'_>) -> Option<u128>
 
 /// Writes the steady literal of a borrowed value over the whole of `room`.
 ///
-/// It can be called only if the value has a literal, so is no float, and `room` is exactly as long
-/// as [`borrowed_steady_len`] says. Nothing is allocated, and nothing is refused.
+/// It can be called only if the value has a literal, so isn't a float, and `room` has exactly the
+/// length that [`borrowed_steady_len`] returns. Nothing is allocated, and nothing is refused.
 pub fn put_borrowed_steady(value: ValueRef<'_>, room: &mut [u8])
     requires { option_map length (steady_literal_of (owned value)) ≡ Some (length room.old) }
     ensures exact { steady_literal_of (owned value.entry) ≡ Some room.new }
@@ -97,7 +97,7 @@ fn fill_borrowed_literal(value: ValueRef<'_>, buffer: &mut [u8])
     }
 }
 
-// How long the steady literal of bytes is.
+// The length of the steady literal of bytes.
 fn steady_bytes_len(bytes: &[u8]) -> u128
     ensures { result ≡ length (steady_bytes_literal bytes.now) }
 {
@@ -138,8 +138,8 @@ fn fill_introduced_pairs(buffer: &mut [u8], bytes: &[u8])
     fill_hexadecimal(pairs, bytes);
 }
 
-// Whether a steady string holds each of the bytes. It goes on after one that it doesn't hold, so
-// that many bytes are judged at once.
+// Whether a steady string holds each of the bytes. The loop goes on after a byte that it doesn't
+// hold, so that many bytes are tested at once.
 fn are_spelled_out(bytes: &[u8]) -> bool
     ensures { result ≡ list_all is_spelled_out bytes.now }
 {
@@ -157,7 +157,7 @@ fn is_spelled_out(byte: u8) -> bool
     32 <= byte && byte <= 126 && byte != b'\\'
 }
 
-/// Steady literals, lent to the crates above.
+/// The form of steady literals, for the crates above.
 #[derive(Debug, Clone, Copy)]
 pub struct SteadyForm;
 

@@ -5,8 +5,8 @@ use thiserror::Error;
 /// Why [`bind_pairs_anywhere`](crate::bind_pairs_anywhere) or
 /// [`bind_pairs_in_any_mode`](crate::bind_pairs_in_any_mode) gave no text.
 ///
-/// Of at most 64 pairs it is the first cause, in this order. Of more, out of memory may come before
-/// a name that is given twice.
+/// For at most 64 pairs it is the first cause, in this order. For more, out of memory may come
+/// before a name that is given twice.
 #[derive(Debug, PartialEq, Drop, Error)]
 pub enum SteadyPairsError {
     /// The name of a pair is that of an earlier one; the first such pair is reported.
@@ -15,8 +15,8 @@ pub enum SteadyPairsError {
         /// Its number among the pairs, from 0.
         index: usize,
     },
-    /// What [`bind_text_anywhere`](crate::bind_text_anywhere) or
-    /// [`bind_text_in_any_mode`](crate::bind_text_in_any_mode) refuses, or out of memory.
+    /// A cause of [`bind_text_anywhere`](crate::bind_text_anywhere) or
+    /// [`bind_text_in_any_mode`](crate::bind_text_in_any_mode), or out of memory.
     #[error(transparent)]
     Bind(SteadyTextError),
 }

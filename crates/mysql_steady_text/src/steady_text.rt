@@ -1,5 +1,5 @@
 //! Queries with the steady literals of values in the places of names and marks, and why a query has
-//! no such text, whatever is given to it.
+//! no such text with any parameters.
 ghost use Rattle.std.specs.Prelude.{◌≡◌, ℕ, Bool, None, Some, IfErr, IfOk, IsErrOf};
 ghost use Rattle.mysql_named_params.specs.Tokens.{OnTokens};
 ghost use Rattle.mysql_named_params.specs.Places.{HasName, HasMark};
@@ -24,18 +24,18 @@ use mysql_portable::portable::first_unportable;
 use mysql_portable::steady::first_unsteady;
 use std::alloc::Global;
 
-/// The query with the steady literal of a value in the place of each name and mark: SQL text that
-/// no `sql_mode` and no character set of a connection reads otherwise, on any server.
+/// The query with the steady literal of a value in the place of each name and mark. No `sql_mode`
+/// and no character set of a connection changes how any server reads the text.
 ///
-/// A text is written as `_utf8mb4'it''s'` if it is printable ASCII without a backslash, as
-/// `_utf8mb4 0xC3A9` if it is other UTF-8, and as `0xFF` if it isn't UTF-8; numbers, `NULL`, dates
-/// and times as [`bind_text`](mysql_binding::bind_text) writes them. So the text is ASCII without a
-/// backslash. Nothing else of the query changes.
+/// Bytes are written as `_utf8mb4'it''s'` if they are printable ASCII without a backslash, as
+/// `_utf8mb4 0xC3A9` if they are other UTF-8, and as `0xFF` if they aren't UTF-8. Numbers, `NULL`,
+/// dates and times are written as [`bind_text`](mysql_binding::bind_text) writes them. So the text
+/// is ASCII without a backslash. Nothing else of the query changes.
 ///
 /// The first of these causes refuses it: `Unsteady`, a backslash or a byte from 128 on anywhere in
 /// the query, also in a comment; `Unportable`, a construct that
-/// [`first_unportable`](mysql_portable::portable::first_unportable) finds; `Bind`, what
-/// `bind_text` refuses, in its order. The parameters are consumed, even if the call refuses.
+/// [`first_unportable`](mysql_portable::portable::first_unportable) finds; `Bind`, a cause of
+/// `bind_text`, in its order. The parameters are consumed, even if the call refuses.
 ///
 /// MariaDB stores an expression of `DEFAULT`, `AS` or `CHECK` as text in which the introducer of a
 /// steady literal isn't kept right. For the expressions of tables use `bind_text`.
@@ -70,9 +70,9 @@ pub fn bind_text_anywhere(
     bind_borrowed_anywhere(alloc, query, params.borrowed())
 }
 
-/// [`bind_text_anywhere`] for a query that is meant for one server: the text that no `sql_mode` and
-/// no character set reads otherwise. The query needn't be portable, so `Unportable` never comes;
-/// all else is as there.
+/// [`bind_text_anywhere`] for a query that is meant for one server. No `sql_mode` and no character
+/// set changes how that server reads the text. The query needn't be portable, so `Unportable` never
+/// comes. Everything else is the same.
 pub fn bind_text_in_any_mode(
     alloc: Global,
     query: &[u8],
@@ -169,11 +169,11 @@ pub(crate) fn bind_steady(
     Ok(bind_borrowed_as(alloc, query, params, reading, &SteadyForm)?)
 }
 
-/// The refusal of a query for which [`bind_text_anywhere`](crate::bind_text_anywhere) needn't look
-/// at parameters: `Unsteady`, or else `Unportable`; lent to the crates above. It allocates nothing.
+/// The cause for which [`bind_text_anywhere`](crate::bind_text_anywhere) refuses a query with any
+/// parameters: `Unsteady`, or else `Unportable`. For the crates above. It allocates nothing.
 ///
-/// Most queries pass by one quick walk. If a byte is in doubt there, two more find what refuses the
-/// query, or that nothing does.
+/// Most queries pass in one quick walk. If a byte is in doubt there, two more walks find the cause,
+/// or that there is none.
 // A query has one token list in each mode, and a steady one the same in both (`steady_texts`).
 pub fn query_refusal(query: &[u8]) -> Option<SteadyTextError>
     ensures { (mode : Bool) → OnTokens mode query.now (λ ts. result ≡ query_refusal query.now ts) }

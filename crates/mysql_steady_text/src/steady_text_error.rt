@@ -18,7 +18,7 @@ pub enum SteadyTextError {
     /// [`bind_text_in_any_mode`](crate::bind_text_in_any_mode).
     #[error("Not portable at byte {} of the query: {}", .0.at, .0.construct)]
     Unportable(Unportable),
-    /// What [`bind_text`](mysql_binding::bind_text) refuses, or out of memory.
+    /// A cause of [`bind_text`](mysql_binding::bind_text), or out of memory.
     #[error(transparent)]
     Bind(BindError),
 }

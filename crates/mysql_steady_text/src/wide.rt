@@ -27,12 +27,12 @@ use mysql_values::value::ValueRef;
 use std::alloc::Global;
 
 /// [`bind_text_anywhere`](crate::bind_text_anywhere) by wide names, as
-/// [`bind_wide_in`](mysql_binding::bind_wide_in) reads them: the query with its names in lower case
-/// has to be portable, as [`first_unportable_wide`](mysql_portable::wide::first_unportable_wide)
-/// finds it.
+/// [`bind_wide_in`](mysql_binding::bind_wide_in) reads them. The query with its names in lower case
+/// has to be portable: [`first_unportable_wide`](mysql_portable::wide::first_unportable_wide) finds
+/// nothing in it.
 ///
-/// It refuses for the same causes in the same order. Out of memory may also come in place of
-/// `Unportable`, and of the refusal of a query with names and marks, if a name has a capital.
+/// It refuses for the same causes in the same order. If a name has a capital, out of memory may
+/// also come in place of `Unportable`, and of the refusal of a query with names and marks.
 pub fn bind_wide_anywhere(
     alloc: Global,
     query: &[u8],
@@ -61,8 +61,8 @@ pub fn bind_wide_anywhere(
     bind_borrowed_wide_anywhere(alloc, query, params.borrowed())
 }
 
-/// [`bind_wide_anywhere`] of borrowed values by position: no value is copied. Beside a wide name
-/// they are refused.
+/// [`bind_wide_anywhere`] for borrowed values by position: no value is copied. A query with a wide
+/// name is refused.
 pub fn bind_wide_values_anywhere(
     alloc: Global,
     query: &[u8],
@@ -91,8 +91,8 @@ pub fn bind_wide_values_anywhere(
     bind_borrowed_wide_anywhere(alloc, query, BorrowedParams::Values(values))
 }
 
-/// [`bind_wide_anywhere`] for a query that is meant for one server: it needn't be portable, so
-/// `Unportable` never comes; all else is as there.
+/// [`bind_wide_anywhere`] for a query that is meant for one server: the query needn't be portable,
+/// so `Unportable` never comes. Everything else is the same.
 pub fn bind_wide_in_any_mode(
     alloc: Global,
     query: &[u8],
@@ -115,8 +115,8 @@ pub fn bind_wide_in_any_mode(
     bind_borrowed_wide_in_any_mode(alloc, query, params.borrowed())
 }
 
-/// [`bind_wide_values_anywhere`] for a query that is meant for one server: it needn't be portable,
-/// so `Unportable` never comes; all else is as there.
+/// [`bind_wide_values_anywhere`] for a query that is meant for one server: the query needn't be
+/// portable, so `Unportable` never comes. Everything else is the same.
 pub fn bind_wide_values_in_any_mode(
     alloc: Global,
     query: &[u8],
@@ -165,7 +165,7 @@ pub(crate) fn bind_borrowed_wide_anywhere(
         have_capitals (names ts) ≡ false → first_unportable (lower_names ts) ≡ None →
         HasName ts × HasMark ts → IsErrOf result (SteadyTextError.Bind BindError.Mixed)) }
 {
-    // Most queries pass by one quick walk, with capitals or without.
+    // Most queries pass in one quick walk, with capitals or without.
     if is_clear(query) {
         return bind_wide_steady(alloc, query, params);
     }

@@ -27,12 +27,12 @@ use mysql_values::value::ValueRef;
 use std::alloc::Global;
 
 /// [`bind_text_in_both_modes`](crate::bind_text_in_both_modes) by wide names, as
-/// [`bind_wide_in`](mysql_binding::bind_wide_in) reads them: the query with its names in lower case
-/// has to be portable, as [`first_unportable_wide`](mysql_portable::wide::first_unportable_wide)
-/// finds it.
+/// [`bind_wide_in`](mysql_binding::bind_wide_in) reads them. The query with its names in lower case
+/// has to be portable: [`first_unportable_wide`](mysql_portable::wide::first_unportable_wide) finds
+/// nothing in it.
 ///
-/// It refuses for the same causes in the same order. Out of memory may also come in place of
-/// `Unportable`, and of the refusal of a query with names and marks, if a name has a capital.
+/// It refuses for the same causes in the same order. If a name has a capital, out of memory may
+/// also come in place of `Unportable`, and of the refusal of a query with names and marks.
 pub fn bind_wide_in_both_modes(
     alloc: Global,
     query: &[u8],
@@ -62,8 +62,8 @@ pub fn bind_wide_in_both_modes(
     bind_borrowed_wide_in_both_modes(alloc, query, params.borrowed())
 }
 
-/// [`bind_wide_in_both_modes`] of borrowed values by position: no value is copied. Beside a wide
-/// name they are refused.
+/// [`bind_wide_in_both_modes`] for borrowed values by position: no value is copied. A query with a
+/// wide name is refused.
 pub fn bind_wide_values_in_both_modes(
     alloc: Global,
     query: &[u8],

@@ -1,5 +1,5 @@
-//! Queries with wide names bound to steady texts, and to those for both modes, from names and
-//! values that are borrowed.
+//! Queries with wide names bound to steady texts, and to texts for both modes, from borrowed names
+//! and values.
 ghost use Rattle.std.specs.Prelude.{◌≡◌, false, ℕ, Bool, None, Some, IfErr, IfOk, IsErrOf};
 ghost use Rattle.mysql_named_params.specs.LoweredNames.{have_capitals, lower_names};
 ghost use Rattle.mysql_named_params.specs.Places.{HasMark, HasName, names};
@@ -31,8 +31,9 @@ use std::alloc::Global;
 /// [`bind_pairs_anywhere`](crate::bind_pairs_anywhere) by wide names, as
 /// [`bind_wide_anywhere`](crate::bind_wide_anywhere) reads them.
 ///
-/// A name that is given twice is refused first. Then what `bind_wide_anywhere` refuses is refused,
-/// in its order. Of more than 64 pairs out of memory may come before either.
+/// A name that is given twice is refused first. Then it refuses for the causes of
+/// `bind_wide_anywhere`, in their order. For more than 64 pairs, out of memory may come before
+/// either.
 pub fn bind_wide_pairs_anywhere(
     alloc: Global,
     query: &[u8],
@@ -45,8 +46,8 @@ pub fn bind_wide_pairs_anywhere(
     ensures by_position { IfOk result (λ text. OfPairs pairs.now (λ given. (mode : Bool) →
         OnWideTokens mode query.now (λ ts. IsSteadyByPosition mode ts given text.items))) }
 
-    // These are refused without allocating, if there are at most 64 pairs and no name stands twice;
-    // the latter two if no name has a capital.
+    // These are refused without allocating, if there are at most 64 pairs and no name is given
+    // twice; the latter two if no name has a capital.
     ensures unsteady { IfFewPairs pairs.now (λ given. (at : ℕ) →
         first_unsteady query.now ≡ Some at →
         IsErrOf result (SteadyPairsError.Bind (SteadyTextError.Unsteady at))) }
@@ -67,9 +68,9 @@ pub fn bind_wide_pairs_anywhere(
     Ok(bind_borrowed_wide_anywhere(alloc, query, params)?)
 }
 
-/// [`bind_wide_pairs_anywhere`] for a query that is meant for one server, as
+/// [`bind_wide_pairs_anywhere`] for a query that is meant for one server, like
 /// [`bind_wide_in_any_mode`](crate::bind_wide_in_any_mode): the query needn't be portable, so
-/// `Unportable` never comes; all else is as there.
+/// `Unportable` never comes. Everything else is the same.
 pub fn bind_wide_pairs_in_any_mode(
     alloc: Global,
     query: &[u8],
@@ -82,7 +83,8 @@ pub fn bind_wide_pairs_in_any_mode(
     ensures by_position { IfOk result (λ text. OfPairs pairs.now (λ given. (mode : Bool) →
         OnWideTokens mode query.now (λ ts. IsSteadyByPosition mode ts given text.items))) }
 
-    // These are refused without allocating, if there are at most 64 pairs and no name stands twice.
+    // These are refused without allocating, if there are at most 64 pairs and no name is given
+    // twice.
     ensures unsteady { IfFewPairs pairs.now (λ given. (at : ℕ) →
         first_unsteady query.now ≡ Some at →
         IsErrOf result (SteadyPairsError.Bind (SteadyTextError.Unsteady at))) }
@@ -101,8 +103,9 @@ pub fn bind_wide_pairs_in_any_mode(
 /// [`bind_pairs_in_both_modes`](crate::bind_pairs_in_both_modes) by wide names, as
 /// [`bind_wide_in_both_modes`](crate::bind_wide_in_both_modes) reads them.
 ///
-/// A name that is given twice is refused first. Then what `bind_wide_in_both_modes` refuses is
-/// refused, in its order. Of more than 64 pairs out of memory may come before either.
+/// A name that is given twice is refused first. Then it refuses for the causes of
+/// `bind_wide_in_both_modes`, in their order. For more than 64 pairs, out of memory may come before
+/// either.
 pub fn bind_wide_pairs_in_both_modes(
     alloc: Global,
     query: &[u8],
@@ -115,8 +118,8 @@ pub fn bind_wide_pairs_in_both_modes(
     ensures by_position { IfOk result (λ text. OfPairs pairs.now (λ given. (mode : Bool) →
         OnWideTokens mode query.now (λ ts. IsByPositionInBothModes mode ts given text.items))) }
 
-    // These are refused without allocating, if there are at most 64 pairs and no name stands twice;
-    // the latter two if no name has a capital.
+    // These are refused without allocating, if there are at most 64 pairs and no name is given
+    // twice; the latter two if no name has a capital.
     ensures backslash { IfFewPairs pairs.now (λ given. (mode : Bool) →
         OnWideTokens mode query.now (λ ts. (at : ℕ) → first_backslash ts ≡ Some at →
         IsErrOf result (BothModesPairsError.Bind (BothModesError.Backslash at)))) }

@@ -12,7 +12,8 @@ use mysql_values::laws::{borrowed_fields_in_range, fields_in_range};
 use mysql_values::value::{Value, ValueRef};
 
 /// The steady literal of a value has the shape of steady literals, is steady, and reads in either
-/// mode as the content of the value. It has no newline and no byte 0. Exactly floats have none.
+/// mode as the content of the value. It has no newline and no byte 0. Floats have none, and only
+/// floats.
 pub fn steady_literals(value: &Value)
     ensures shape { IfSome (steady_literal_of value.now) IsSteadyLiteral }
     ensures steady { IfSome (steady_literal_of value.now) IsSteady }
@@ -23,7 +24,7 @@ pub fn steady_literals(value: &Value)
     fields_in_range(value);
 }
 
-/// The same of a borrowed value.
+/// The same for a borrowed value.
 pub fn borrowed_steady_literals(value: ValueRef<'_>)
     ensures shape { IfSome (steady_literal_of (owned value.entry)) IsSteadyLiteral }
     ensures steady { IfSome (steady_literal_of (owned value.entry)) IsSteady }
