@@ -4,7 +4,7 @@ ghost use Rattle.mysql_flat_params.specs.ColumnNumbers.{column_type};
 
 use mysql_wire_part::ColumnType;
 
-/// The type of columns that has this number in the protocol.
+/// The column type with this number in the protocol; `None` if there is none.
 pub fn column_type(number: u8) -> Option<ColumnType>
     ensures { result ≡ column_type number }
 {

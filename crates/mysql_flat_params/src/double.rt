@@ -8,7 +8,7 @@ ghost use Rattle.mysql_flat_params.specs.FiniteDouble.{finite_double};
 use mysql_float_literal::Double;
 use mysql_values::value::ValueRef;
 
-/// The number of a finite float or double; none for any other value.
+/// The number of a finite float or double; `None` for any other value.
 pub(crate) fn double_in(value: ValueRef<'_>) -> Option<Double>
     ensures { option_map double_value result ≡ finite_double (owned value.entry) }
 {

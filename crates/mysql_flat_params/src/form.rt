@@ -29,7 +29,7 @@ const LEAST_PARAMETER: usize = 3;
 // For so many values after the first there is room at once.
 const MANY_VALUES: usize = 63;
 
-/// Where a parameter stands in the form.
+/// The place of a parameter in the form.
 #[derive(Clone, Copy)]
 pub(crate) struct Spot {
     /// Its number, from 0.
@@ -38,20 +38,23 @@ pub(crate) struct Spot {
     pub(crate) position: usize,
 }
 
-/// The parameters that a form says: none for the empty form, and otherwise by position or by name,
-/// as its first parameter is.
+/// The parameters of a form. The empty form has none. Otherwise all are by position or all by name,
+/// like the first.
 ///
-/// In the form parameters stand one after another up to its end. Each is its name, a length-encoded
-/// string (of no bytes: by position); a byte, the number of its column type
-/// ("Protocol::ColumnType" of the MySQL client/server protocol); a byte of flags, of which 128 says
-/// that a whole number has no sign and the others say nothing ("COM_STMT_EXECUTE"); and its value
-/// in binary form, as [`read_binary_value`] reads it.
+/// A form is its parameters, one after another. Each parameter has four parts:
 ///
-/// The parameters are read in order, up to the first that is refused. The name of each is read
-/// first (`End`, `LengthLead`) and judged (`Mixed`, `Repeated`), then type and flags (`End`); a
-/// type that is not read is `UnsupportedType`; then the value is read (`End`, `LengthLead`).
-/// `Memory` is returned only if the form's first parameter is read. Nothing is allocated for a
-/// length that the form only states.
+/// - its name, a length-encoded string, which is empty for a parameter by position;
+/// - a byte, the number of its column type ("Protocol::ColumnType" of the MySQL client/server
+///   protocol);
+/// - a byte of flags: 128 means that a whole number has no sign, and the other flags are ignored
+///   ("COM_STMT_EXECUTE");
+/// - its value in binary form, as [`read_binary_value`] reads it.
+///
+/// The parameters are read in order, up to the first that is refused. For each, the name is read
+/// first (`End`, `LengthLead`) and checked (`Mixed`, `Repeated`). Then type and flags are read
+/// (`End`); a number that isn't that of a type with a binary form is `UnsupportedType`. Then the
+/// value is read (`End`, `LengthLead`). `Memory` comes only if the form's first parameter can be
+/// read. Nothing is allocated for a length that the form only states.
 pub fn params_of_form(alloc: Global, form: &[u8]) -> Result<Params, FormError>
     ensures params { IfOk result (λ params. IsFormReading form.now (Ok (given params))) }
     ensures refused { IfErr result (IsFormRefusal form.now) }
@@ -80,7 +83,8 @@ fn own_values(alloc: Global, values: &[ValueRef<'_>]) -> Result<Vec<Value>, Allo
     Ok(list)
 }
 
-/// What a form says: values by position stay in the form, and names are kept as `M` keeps them.
+/// The parameters of a form: values by position stay in the form, and names are kept as `M` keeps
+/// them.
 #[derive(Drop)]
 pub(crate) enum FormParams<'f, M: Drop> {
     Empty,
@@ -88,8 +92,8 @@ pub(crate) enum FormParams<'f, M: Drop> {
     Positional(Vec<ValueRef<'f>>),
 }
 
-/// The parameters that a form says, as [`params_of_form`] gives them. Values by position go into
-/// the spare list, whatever stood there.
+/// The parameters of a form, as [`params_of_form`] gives them. Values by position go into the spare
+/// list; its old contents are dropped.
 pub(crate) fn form_params<'f, M: FormNames<'f>>(
     alloc: Global,
     form: &'f [u8],

@@ -1,4 +1,4 @@
-//! Why bytes are no parameters.
+//! Why bytes aren't a form of parameters.
 use std::alloc::{AllocError, AllocFailed};
 use thiserror::Error;
 
@@ -21,10 +21,10 @@ pub enum FormError {
         place: usize,
         /// The index of its first byte.
         position: usize,
-        /// The byte that begins no length.
+        /// That byte.
         lead: u8,
     },
-    /// The number of its type is that of no type, or of one without a binary form.
+    /// The number of its type isn't that of a column type with a binary form.
     #[error("Unsupported column type {number} of parameter {place} at byte {position}")]
     UnsupportedType {
         /// The number of the parameter.
@@ -34,7 +34,7 @@ pub enum FormError {
         /// The number of its type.
         number: u8,
     },
-    /// It has a name and the first parameter has none, or it has none and the first has one.
+    /// The parameter has a name and the first has none, or it has none and the first has one.
     #[error("Named and positional params in one form: parameter {place} at byte {position}")]
     Mixed {
         /// The number of the parameter.

@@ -16,7 +16,7 @@ pub(crate) trait FormNames<'f>: Drop {
     // the finite map that they stand for
     ghost values: { Self → ValueMap };
 
-    /// This name only, where at most so many follow it.
+    /// Only this name. At most `follow` names come after it.
     fn with_first(
         alloc: Global,
         name: &'f [u8],
@@ -72,11 +72,11 @@ impl<'f> FormNames<'f> for HashMap<Vec<u8>, Value> {
     }
 }
 
-/// A walk over so many names finds one sooner than a sorted map does.
+/// Up to this number of names a linear search is faster than a sorted map.
 pub(crate) const FEW_NAMES: usize = 16;
 
-/// Names with values that stay in the form: a few in pairs, which a walk finds, and more in a
-/// sorted map, which no choice of names makes slow.
+/// Names with values that stay in the form: a few in a list of pairs, which is searched in order,
+/// and more in a sorted map, which no choice of names makes slow.
 #[derive(Drop)]
 pub(crate) enum NamesInPlace<'f> {
     Pairs(Vec<(&'f [u8], ValueRef<'f>)>),

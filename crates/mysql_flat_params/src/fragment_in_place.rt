@@ -1,4 +1,4 @@
-//! One fragment, kept where it lies.
+//! One fragment of a form, kept in the form's own bytes.
 ghost use Rattle.std.specs.Prelude.{◌≡◌, ◌++◌, ℕ, IfErr, IfOk, IfSome, List, Ok, [], ⊤, length, map, true};
 ghost use Rattle.mysql_wire_part.specs.Answer.{IsExpectedRefusal};
 ghost use Rattle.mysql_wire_part.specs.ParseBuf.{left};
@@ -26,15 +26,15 @@ use std::alloc::{AllocError, Global};
 // The bytes of the shortest item: its type and its flags.
 const LEAST_ITEM: usize = 2;
 
-/// A fragment of a form. Values stay where they lie, also those of a list or of rows; what else
-/// there is, is copied.
+/// A fragment of a form. Values stay in the form, also those of a list or of rows. Every other
+/// fragment is copied.
 #[derive(Drop)]
 pub(crate) enum FragmentInPlace<'f> {
     Value(ValueRef<'f>),
     List(Vec<ValueRef<'f>>),
     Rows(RowsInPlace<'f>),
-    /// A fragment of another kind, a list or rows with an exact number or a double in them, no
-    /// rows, and rows that are empty or of two lengths.
+    /// A fragment of another kind. A list or rows with an exact number or a double in them are
+    /// copied too, and so are no rows, empty rows and rows of two lengths.
     Copied(Fragment),
 }
 

@@ -1,4 +1,4 @@
-//! The text for any server that is bound to fragments, in a room that the caller lends.
+//! The text for any server that is bound to fragments, in a room of the caller.
 ghost use Rattle.std.specs.Prelude.{◌≡◌, ◌≤◌, ◌<◌, Bool, List, ℕ, Ok, IfErr, IfOk, OnErr, length, take, drop};
 ghost use Rattle.mysql_named_params.specs.Reading.{OnTokensIn, reading_with};
 ghost use Rattle.mysql_portable.specs.Steady.{IsSteady};
@@ -25,16 +25,16 @@ use mysql_named_params::places::Reading;
 use mysql_steady_text::SteadyForm;
 use std::alloc::{AllocError, Global};
 
-/// Binds into a query what a form says, as
-/// [`bind_fragments_anywhere`](mysql_fragments::bind_fragments_anywhere) binds the form's
-/// fragments, and writes the text to the front of the room: SQL text that no `sql_mode` and no
-/// character set of a connection reads otherwise, on any server.
+/// Binds a form's fragments to a query, as
+/// [`bind_fragments_anywhere`](mysql_fragments::bind_fragments_anywhere) does, and writes the text
+/// to the front of the room. No `sql_mode` and no character set of a connection changes how any
+/// server reads the text.
 ///
 /// Form, room, `Done` and `Room` are as for [`bind_fragments_into`](crate::bind_fragments_into). A
-/// form is refused before the query; then come `Unsteady` and `Unportable`, then the causes of
-/// `bind_fragments_into`, and then `UnsteadyFragment`, for a fragment with a name that has a
-/// backslash or a byte from 128 on. Any outcome may be `OutOfMemory` instead. After every outcome
-/// except `Done` the room is as before.
+/// form is refused before the query. Then come `Unsteady` and `Unportable`, then the causes of
+/// `bind_fragments_into`. `UnsteadyFragment` is last: a fragment has a name with a backslash or a
+/// byte from 128 on. Any outcome may be `OutOfMemory` instead. After every outcome except `Done`
+/// the room is as before.
 // A steady query has the same tokens in both modes (`mysql_portable::laws::steady_texts`).
 pub fn bind_fragments_anywhere_into(
     alloc: Global,
@@ -53,9 +53,9 @@ pub fn bind_fragments_anywhere_into(
     bind_form_anywhere(alloc, query, form, false, room)
 }
 
-/// Binds into a query what a form says, as [`bind_fragments_anywhere_into`] by wide names: as
-/// [`bind_wide_fragments_anywhere`](mysql_fragments::bind_wide_fragments_anywhere) binds the form's
-/// fragments. All else is as there.
+/// [`bind_fragments_anywhere_into`] by wide names: it binds as
+/// [`bind_wide_fragments_anywhere`](mysql_fragments::bind_wide_fragments_anywhere) does. Everything
+/// else is the same.
 pub fn bind_wide_fragments_anywhere_into(
     alloc: Global,
     query: &[u8],

@@ -17,28 +17,28 @@ use mysql_wire_part::ParseBuf;
 use std::alloc::Global;
 use std::collections::HashMap;
 
-/// The fragments that a form says, by position or by name, as its first parameter is; none by
-/// position for the empty form.
+/// The fragments of a form, by position or by name, like its first parameter. The empty form has
+/// none, by position.
 ///
-/// The form is that of [`params_of_form`](crate::params_of_form), with eight types more.
-/// What follows their flags, which say nothing, is
+/// The form is that of [`params_of_form`](crate::params_of_form), with eight types more. Their
+/// flags are ignored. After the flags comes
 ///
 /// - for 128, an exact number, its text as a length-encoded string;
-/// - for 129, a list, the count of its items in four bytes, least first, and these, each as a type,
-///   flags, and a value or the text of an exact number;
-/// - for 130, rows, the count of the rows in four bytes, and each as a list has its items;
+/// - for 129, a list, the count of its items in four bytes, least first, and the items, each with a
+///   type, flags, and a value or the text of an exact number;
+/// - for 130, rows, the count of the rows in four bytes, and the rows, each like a list;
 /// - for 131, an identifier, its name as a length-encoded string;
-/// - for 132, a qualified identifier, the count of its names in four bytes, and each as such a
-///   string;
-/// - for 133, a keyword, its text as such a string. A text that is none of the keywords that a form
-///   may have becomes one of no bytes, which no call writes;
-/// - for 134, identifiers, the count of them in four bytes, and each as 132 has its names;
-/// - for 135, assignments, the count of them in four bytes, and each as a column, as 132 has its
-///   names, and an item, as a list has it.
+/// - for 132, a qualified identifier, the count of its names in four bytes, and the names, each as
+///   a length-encoded string;
+/// - for 133, a keyword, its text as a length-encoded string. A text that isn't one of the keywords
+///   that a form may have becomes an empty keyword, which no call writes;
+/// - for 134, identifiers, their count in four bytes, and each with its names as for 132;
+/// - for 135, assignments, their count in four bytes, and each with the names of its column as for
+///   132, and an item as in a list.
 ///
-/// The parameters are read in order, up to the first that is refused, as `params_of_form` reads
-/// and refuses them. Nothing is allocated for a length or a count that the form only states. What
-/// is wrong with a fragment, as an empty list, is refused where it is bound.
+/// The parameters are read in order, up to the first that is refused, as `params_of_form` reads and
+/// refuses them. Nothing is allocated for a length or a count that the form only states. A fault of
+/// a fragment, such as an empty list, is refused when it is bound.
 pub fn form_fragments(alloc: Global, form: &[u8]) -> Result<Fragments, FormError>
     ensures fragments { IfOk result (λ fragments.
         IsFormReading form.now (Ok (given_fragments fragments))) }

@@ -1,4 +1,4 @@
-//! The flat form of fragments, read where it lies.
+//! The flat form of fragments, read without a copy of its values.
 ghost use Rattle.std.specs.Prelude.{◌≡◌, ◌≤◌, [], Ok, IfErr, IfOk, IfSome, IsOk, OnOk, ⊤, is_some, length, option_and_then, true};
 ghost use Rattle.std.specs.FinMap.{contains_key, get};
 ghost use Rattle.mysql_wire_part.specs.Answer.{IsExpectedRefusal};
@@ -18,15 +18,16 @@ use mysql_wire_part::ParseBuf;
 use std::alloc::{AllocError, Global};
 use std::collections::BTreeMap;
 
-/// What a form says, kept where it lies. Names are in a sorted map, which no choice of names makes
-/// slow.
+/// The fragments of a form, kept in the form's own bytes. Names are in a sorted map, which no
+/// choice of names makes slow.
 #[derive(Drop)]
 pub(crate) enum FormInPlace<'f> {
     Positional(Vec<FragmentInPlace<'f>>),
     Named(BTreeMap<&'f [u8], FragmentInPlace<'f>>),
 }
 
-/// What a form says, as [`form_fragments`](crate::form_fragments) reads and refuses it.
+/// The fragments of a form, which is read and refused as by
+/// [`form_fragments`](crate::form_fragments).
 pub(crate) fn form_in_place<'f>(alloc: Global, form: &'f [u8]) -> Result<FormInPlace<'f>, FormError>
     ensures read { IfOk result (λ kept. (given : GivenFragments) × IsGivenAs kept given
         × IsFormReading form.now (Ok given)) }

@@ -1,28 +1,28 @@
-//! What became of a call that binds fragments into a caller's room.
+//! The outcome of a call that binds fragments into a caller's room.
 ghost use Rattle.std.specs.Prelude.{◌≡◌, pos};
 ghost use Rattle.mysql_flat_params.specs.FragmentsOutcomes.{fault_item, fault_number, fault_row, number_of, report_of};
 
 use crate::outcome::{Outcome, Report};
 use mysql_fragments::FragmentFault;
 
-/// What became of a call that binds fragments into a caller's room. After each except `Done` the
-/// room is as it was.
+/// The outcome of a call that binds fragments into a caller's room. After each one except `Done`
+/// the room is as it was.
 #[derive(Clone, Copy, Debug, PartialEq, Eq)]
 pub enum FragmentsOutcome {
-    /// What becomes of a call that binds values too. `Unsteady` and `Unportable` come from
-    /// [`bind_fragments_anywhere_into`](crate::bind_fragments_anywhere_into) alone, and `Backslash`
-    /// never.
+    /// An outcome that calls which bind values have too. Only
+    /// [`bind_fragments_anywhere_into`](crate::bind_fragments_anywhere_into) returns `Unsteady` and
+    /// `Unportable`, and no call that binds fragments returns `Backslash`.
     AsValues(Outcome),
-    /// The fragment for a place can't be written; of several it is the first.
+    /// The fragment for a place can't be written; the first such place is reported.
     Fault {
         /// The number of its place, from 0.
         place: usize,
-        /// What is wrong with it.
+        /// Its fault.
         fault: FragmentFault,
     },
-    /// The fragment for a place has a name with a backslash or a byte from 128 on; of several it is
-    /// the first. It comes from
-    /// [`bind_fragments_anywhere_into`](crate::bind_fragments_anywhere_into) alone.
+    /// The fragment for a place has a name with a backslash or a byte from 128 on; the first such
+    /// place is reported. Only
+    /// [`bind_fragments_anywhere_into`](crate::bind_fragments_anywhere_into) returns it.
     UnsteadyFragment {
         /// The number of its place, from 0.
         place: usize,
@@ -30,7 +30,7 @@ pub enum FragmentsOutcome {
 }
 
 impl FragmentsOutcome {
-    /// The number of the outcome's kind: that of an [`Outcome`], 17 for a fault, and 19 for a
+    /// The number of the outcome's kind: the number of an [`Outcome`], 17 for a fault, or 19 for a
     /// fragment that isn't steady.
     pub fn number(self) -> i32
         ensures number { result ≡ pos (number_of self) }
@@ -42,10 +42,10 @@ impl FragmentsOutcome {
         }
     }
 
-    /// The fields of the outcome. Those of a fault are its place, its number as `byte`, 1 for
-    /// [`FragmentFault::Empty`] and then in the order of the declaration, its row as `position`,
-    /// and its item or its part of a qualified identifier as `values`. A fragment that isn't steady
-    /// has its place.
+    /// The fields of the outcome. A fault has its place, its number as `byte`, its row as
+    /// `position`, and its item or its part of a qualified identifier as `values`. The numbers are
+    /// 1 for [`FragmentFault::Empty`], and then in the order of the declaration. A fragment that
+    /// isn't steady has its place.
     pub fn report(self) -> Report
         ensures fields { result ≡ report_of self }
     {

@@ -1,4 +1,4 @@
-//! The text that is bound to fragments, in a room that the caller lends.
+//! The text that is bound to fragments, in a room of the caller.
 ghost use Rattle.std.specs.Prelude.{◌≡◌, ◌≤◌, ◌<◌, List, ℕ, [], Ok, IfErr, IfOk, IsErrOf, OnErr, length, take, drop, true};
 ghost use Rattle.std.specs.List.{Contains};
 ghost use Rattle.mysql_named_params.specs.Reading.{OnTokensIn};
@@ -25,20 +25,21 @@ use mysql_named_params::places::Reading;
 use mysql_params_core::params::ParamsConfusionError;
 use std::alloc::{AllocError, Global};
 
-/// Binds into a query what a form says, as
-/// [`bind_fragments_in`](mysql_fragments::bind_fragments_in) binds the form's fragments in a mode,
-/// and writes the text to the front of the room. The form is that of
-/// [`form_fragments`](crate::form_fragments). Names and values stay where they lie in it, also
-/// those of a list and of rows of one length. Any other fragment is copied, as a list with an exact
-/// number in it.
+/// Binds a form's fragments to a query in a mode, as
+/// [`bind_fragments_in`](mysql_fragments::bind_fragments_in) does, and writes the text to the front
+/// of the room. The form is that of [`form_fragments`](crate::form_fragments). Names and values
+/// aren't copied, nor are those of a list and of rows of one length. Any other fragment is copied,
+/// such as a list with an exact number in it.
 ///
 /// `Done` has the length of the text; the rest of the room is unchanged. `Room` has the length that
-/// the room would need. A form is refused before the query; then the first of the causes of
-/// `bind_fragments_in` refuses it. `Missing` tells the first place that has the missing name. The
-/// empty form over a query with names and marks is `Mixed` without allocating. Any other outcome
-/// may be `OutOfMemory` instead, also if a form is refused for its first parameter: memory is
-/// allocated for the items before the refused one. It also comes if the text would be longer than
-/// `isize::MAX` bytes. After every outcome except `Done` the room is as before.
+/// the room would need. A form is refused before the query. Then the first of the causes of
+/// `bind_fragments_in` refuses the query. `Missing` reports the first place with the missing name.
+/// The empty form over a query with names and marks is `Mixed` without allocating.
+///
+/// Any other outcome may be `OutOfMemory` instead, also if a form is refused for its first
+/// parameter: memory is allocated for the items before the refused one. `OutOfMemory` also comes if
+/// the text would be longer than `isize::MAX` bytes. After every outcome except `Done` the room is
+/// as before.
 pub fn bind_fragments_into(
     alloc: Global,
     query: &[u8],
@@ -65,8 +66,8 @@ pub fn bind_fragments_into(
     bind_fragments_into_read(alloc, query, form, reading, room)
 }
 
-/// [`bind_fragments_into`] of a query in any reading. All is as there, over the names of the
-/// reading.
+/// [`bind_fragments_into`] for a query in any reading. Everything is the same, over the names of
+/// the reading.
 pub fn bind_fragments_into_read(
     alloc: Global,
     query: &[u8],
@@ -132,7 +133,7 @@ fn bind_kept(
     }
 }
 
-/// A refusal of binding to this query.
+/// The outcome for an error of binding to this query.
 pub(crate) fn fragments_outcome(
     query: &[u8],
     error: FragmentsError,

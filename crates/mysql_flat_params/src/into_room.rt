@@ -1,4 +1,4 @@
-//! The bound text, in a room that the caller lends.
+//! The bound text, in a room of the caller.
 ghost use Rattle.std.specs.Prelude.{◌≡◌, ◌⊎◌, ◌≤◌, ◌<◌, ℕ, Bool, List, [], None, Some, Ok, length, take, drop, IfErr, IfOk, IfSome, IsErrOf, OnErr, alloc_error};
 ghost use Rattle.std.specs.List.{Contains};
 ghost use Rattle.mysql_named_params.specs.Reading.{OnTokensIn};
@@ -34,17 +34,18 @@ use mysql_named_params::places::Reading;
 use mysql_params_core::params::{BorrowedParams, NamedPairs, ParamsConfusionError, ParamsError};
 use std::alloc::Global;
 
-/// Binds into a query what a form says, as [`bind_text_in`](mysql_binding::bind_text_in) binds the
-/// form's parameters in a mode, and writes the text to the front of the room. The form is that of
+/// Binds a form's parameters to a query in a mode, as [`bind_text_in`](mysql_binding::bind_text_in)
+/// does, and writes the text to the front of the room. The form is that of
 /// [`params_of_form`](crate::params_of_form).
 ///
 /// `Done` has the length of the text; the rest of the room is unchanged. `Room` has the length that
-/// the room would need. A form is refused before the query; then the first of the causes of
-/// `bind_text_in` refuses it. `Missing` tells the first place that has the missing name. The empty
-/// form over a query with names and marks is `Mixed` without allocating, and a form that is refused
-/// for its first parameter is refused without allocating too. Any other outcome may be
-/// `OutOfMemory` instead, which also comes if the text would be longer than `isize::MAX` bytes.
-/// After every outcome except `Done` the room is as before.
+/// the room would need. A form is refused before the query. Then the first of the causes of
+/// `bind_text_in` refuses the query. `Missing` reports the first place with the missing name.
+///
+/// Nothing is allocated if the empty form over a query with names and marks is `Mixed`, or if a
+/// form is refused for its first parameter. Any other outcome may be `OutOfMemory` instead, which
+/// also comes if the text would be longer than `isize::MAX` bytes. After every outcome except
+/// `Done` the room is as before.
 pub fn bind_into(
     alloc: Global,
     query: &[u8],
@@ -75,7 +76,7 @@ pub fn bind_into(
     bind_into_read(alloc, query, form, reading, room)
 }
 
-/// [`bind_into`] of a query in any reading. All is as there, over the names of the reading.
+/// [`bind_into`] for a query in any reading. Everything is the same, over the names of the reading.
 pub fn bind_into_read(
     alloc: Global,
     query: &[u8],
@@ -147,7 +148,7 @@ pub(crate) fn text_outcome(text: TextInRoom) -> Outcome
     }
 }
 
-/// What a form says, kept in the form's own bytes.
+/// The parameters of a form, kept in the form's own bytes.
 pub(crate) type ParamsInPlace<'f> = FormParams<'f, NamesInPlace<'f>>;
 
 // The pairs in which names are kept, for `borrowed_params`; none if they are kept otherwise.

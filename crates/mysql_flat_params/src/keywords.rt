@@ -40,7 +40,7 @@ const KEYWORDS: [&[u8]; 33] = [
     b"LOCK IN SHARE MODE",
 ];
 
-/// The text as one of the keywords that a form may have; no bytes if it is none of them.
+/// The text as one of the keywords that a form may have; empty if it isn't one of them.
 pub(crate) fn listed_keyword(text: &[u8]) -> &'static [u8]
     ensures { result.now ≡ listed_keyword text.now }
 {

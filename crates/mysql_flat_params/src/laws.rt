@@ -9,7 +9,7 @@ use crate::form_error::FormError;
 use crate::outcome::{Outcome, Report};
 use crate::rows::Rows;
 
-/// Each form says parameters or is refused, and it has one such reading.
+/// Each form either has parameters or is refused, and this result is unique.
 pub fn one_form_reading()
     ensures exists { (form : List ℕ) →
         (reading : Result Given FormRefusal) × IsFormReading form reading }
@@ -17,13 +17,13 @@ pub fn one_form_reading()
         IsFormReading form a → IsFormReading form b → a ≡ b }
 {}
 
-/// The number and the fields of an outcome are those of no other.
+/// No two outcomes have the same number and fields.
 pub fn one_outcome()
     ensures unique { (a b : outcome.Outcome) →
         number_of a ≡ number_of b → report_of a ≡ report_of b → a ≡ b }
 {}
 
-/// Equality of the errors of forms is of variant and fields.
+/// Errors of forms are equal if and only if variant and fields are.
 pub fn form_error_equality(a: &FormError, b: &FormError) -> bool
     ensures same { IsTrue result ↔ (a.now ≡ b.now) }
     ensures member { result ≡ ⟦<FormError as PartialEq>⟧.eq a.now b.now }
@@ -31,7 +31,7 @@ pub fn form_error_equality(a: &FormError, b: &FormError) -> bool
     a == b
 }
 
-/// Equality of outcomes is of variant and fields.
+/// Outcomes are equal if and only if variant and fields are.
 pub fn outcome_equality(a: &Outcome, b: &Outcome) -> bool
     ensures same { IsTrue result ↔ (a.now ≡ b.now) }
     ensures member { result ≡ ⟦<Outcome as PartialEq>⟧.eq a.now b.now }
@@ -39,7 +39,7 @@ pub fn outcome_equality(a: &Outcome, b: &Outcome) -> bool
     a == b
 }
 
-/// Equality of reports is of all fields.
+/// Reports are equal if and only if all fields are.
 pub fn report_equality(a: &Report, b: &Report) -> bool
     ensures same { IsTrue result ↔ (a.now ≡ b.now) }
     ensures member { result ≡ ⟦<Report as PartialEq>⟧.eq a.now b.now }
@@ -47,7 +47,7 @@ pub fn report_equality(a: &Report, b: &Report) -> bool
     a == b
 }
 
-/// Equality of what tells how far rows are bound is of all fields.
+/// Two `Rows` are equal if and only if all fields are.
 pub fn rows_equality(a: &Rows, b: &Rows) -> bool
     ensures same { IsTrue result ↔ (a.now ≡ b.now) }
     ensures member { result ≡ ⟦<Rows as PartialEq>⟧.eq a.now b.now }

@@ -1,22 +1,23 @@
-//! Binding for callers in other languages: parameters come in as bytes in one flat form, and the
-//! answer goes into a room that the caller lends.
+//! Binding for callers in other languages: parameters come as bytes in one flat form, and the
+//! answer is written into a room, a buffer of the caller.
 //!
 //! [`params_of_form`] reads the form. [`bind_into`], [`bind_anywhere_into`],
-//! [`bind_in_both_modes_into`] and [`names_into`] write their answer into the room, or leave it as
-//! it was and say by an [`Outcome`] why.
-//! [`table_into`] makes a table of a query's places, and [`bind_by_table_into`] binds by it, in a
-//! [`Template`], without a walk of the query. [`bind_rows_into`] parses a query once and binds it
-//! to many forms.
+//! [`bind_in_both_modes_into`] and [`names_into`] write their answer into the room. If they can't,
+//! they leave the room as it was, and an [`Outcome`] has the cause. [`table_into`] makes a table of
+//! a query's places, and [`bind_by_table_into`] binds by it, in a [`Template`], without a walk of
+//! the query. [`bind_rows_into`] parses a query once and binds it to many forms.
 //! [`report_first_unportable`] reports the first construct for which a query isn't portable, and
-//! [`report_first_unportable_in_client`] also what a client reads or sends otherwise.
+//! [`report_first_unportable_in_client`] also reports constructs that a client reads or sends in
+//! another way.
 //!
 //! [`form_fragments`] reads the form of fragments: lists, rows, exact numbers, doubles, identifiers
-//! and keywords. [`bind_fragments_into`] and [`bind_fragments_anywhere_into`] bind what it says,
-//! and say by a [`FragmentsOutcome`] why they refuse.
+//! and keywords. [`bind_fragments_into`] and [`bind_fragments_anywhere_into`] bind its fragments. A
+//! [`FragmentsOutcome`] has the cause if they refuse.
 //!
-//! A function whose name ends in `_read` is the one without this end for a query in any
-//! [`Reading`], so also by the wide names of [`bind_wide_in`](mysql_binding::bind_wide_in), which
-//! may have capitals. It has the same outcomes.
+//! A function whose name ends in `_read` does the same as the one without `_read`, for a query in
+//! any [`Reading`]. So it can also read the wide names of
+//! [`bind_wide_in`](mysql_binding::bind_wide_in), which may have capitals. It has the same
+//! outcomes.
 #![tactic(auto)]
 
 mod column_number;

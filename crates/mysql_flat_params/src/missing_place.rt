@@ -1,4 +1,4 @@
-//! Where a name stands in a query.
+//! The place of a name in a query.
 ghost use Rattle.std.specs.Prelude.{◌≡◌, ◌<◌, ◌↔◌, None, length, drop, IfSome, IsTrue};
 ghost use Rattle.std.specs.List.{Contains};
 ghost use Rattle.mysql_named_params.specs.Tokens.{OnTokens};
@@ -8,8 +8,8 @@ ghost use Rattle.mysql_flat_params.specs.NamePlace.{IsFirstOfName};
 
 use mysql_named_params::places::{PlaceKind, Reading, first_place_in};
 
-/// The first place of a query that has this name: its number, and the index of the name's first
-/// byte, after the colon.
+/// The first place of a query with this name: its number, and the index of the name's first byte,
+/// after the colon.
 pub fn name_place(query: &[u8], name: &[u8], no_backslash_escape: bool) -> Option<(usize, usize)>
     ensures found { OnTokens no_backslash_escape query.now (λ ts. IfSome result (λ found.
         IsFirstOfName ts name.now found.0 found.1)) }
@@ -23,7 +23,7 @@ pub fn name_place(query: &[u8], name: &[u8], no_backslash_escape: bool) -> Optio
     name_place_read(query, name, reading)
 }
 
-/// [`name_place`] of a query in any reading.
+/// [`name_place`] for a query in any reading.
 pub fn name_place_read(query: &[u8], name: &[u8], reading: Reading) -> Option<(usize, usize)>
     ensures found { OnTokensIn reading query.now (λ ts. IfSome result (λ found.
         IsFirstOfName ts name.now found.0 found.1)) }

@@ -1,8 +1,9 @@
-//! The names of a query, in a room that the caller lends.
+//! The names of a query, in a room of the caller.
 //!
 //! A query without a byte `?` has no marks. If the room may be long enough for its answer, one walk
-//! gathers the query with marks and its names in two vectors, which are then copied. Otherwise one
-//! walk sums the lengths, and if the room is long enough a second one writes: nothing is allocated.
+//! gathers the query with marks and its names in two vectors, which are then copied. Otherwise
+//! nothing is allocated: one walk sums the lengths, and a second one writes if the room is long
+//! enough.
 ghost use Rattle.std.specs.Prelude.{◌≡◌, ◌≢◌, ◌+◌, ◌*◌, ◌≤◌, ◌<◌, ◌++◌, ◌∷◌, [], length, take, drop, IfOk, true};
 ghost use Rattle.mysql_wire_part.specs.Lenenc.{lenenc_spelling};
 ghost use Rattle.mysql_named_params.specs.Bytes.{question_mark};
@@ -21,15 +22,15 @@ use mysql_named_params::places::{PlaceKind, Reading, first_place_in};
 use mysql_wire_part::{fill_lenenc_str, lenenc_str_len, put_lenenc_str};
 use std::alloc::{AllocError, Global};
 
-/// Writes the query with `?` in the place of each name, as
+/// Writes a query with `?` in the place of each name to the front of the room, and then each name
+/// in order, with repeats. Each is a length-encoded string. Query and names are those that
 /// [`ParsedNamedParams::parse_in`](mysql_named_params::named_params::ParsedNamedParams::parse_in)
-/// gives it in a mode, and then each name in order, with repeats, each as a length-encoded string,
-/// to the front of the room.
+/// gives in a mode.
 ///
 /// `Done` has the length of the answer; the rest of the room is unchanged. `Room` has the length
 /// that the room would need. A query with names and marks is `Mixed`. `OutOfMemory` comes only for
-/// a query with names and without marks, and for a room longer than the query; nothing else
-/// allocates. There are no other outcomes. After every outcome except `Done` the room is as before.
+/// a query with names and without marks, with a room longer than the query; otherwise nothing is
+/// allocated. There are no other outcomes. After every outcome except `Done` the room is as before.
 pub fn names_into(
     alloc: Global,
     query: &[u8],
@@ -59,7 +60,8 @@ pub fn names_into(
     names_into_read(alloc, query, reading, room)
 }
 
-/// [`names_into`] of a query in any reading. All is as there, over the names of the reading.
+/// [`names_into`] for a query in any reading. Everything is the same, over the names of the
+/// reading.
 pub fn names_into_read(alloc: Global, query: &[u8], reading: Reading, room: &mut [u8]) -> Outcome
     ensures outcome { IsNamesOutcomeIn reading query.now result }
     ensures written { IfDone result (λ len.

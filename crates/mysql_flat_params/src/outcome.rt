@@ -1,21 +1,21 @@
-//! What became of a call that writes into a caller's room.
+//! The outcome of a call that writes into a caller's room.
 ghost use Rattle.std.specs.Prelude.{◌≡◌, pos};
 ghost use Rattle.mysql_flat_params.specs.Outcomes.{no_fields, number_of, report_of};
 
-/// What became of a call that writes into a caller's room. After each except `Done` the room is as
-/// it was.
+/// The outcome of a call that writes into a caller's room. After each one except `Done` the room is
+/// as it was.
 #[derive(Clone, Copy, Debug, PartialEq, Eq)]
 pub enum Outcome {
-    /// The answer stands in the first `len` bytes of the room. The rest of the room is unchanged.
+    /// The answer is in the first `len` bytes of the room. The rest of the room is unchanged.
     Done {
-        /// The bytes of the answer.
+        /// The length of the answer in bytes.
         len: usize,
     },
     /// Memory was refused, or the answer would be longer than any answer can be.
     OutOfMemory,
     /// The room is shorter than the answer.
     Room {
-        /// The bytes of the answer.
+        /// The length of the answer in bytes.
         len: usize,
     },
     /// The form ends within a parameter.
@@ -31,10 +31,10 @@ pub enum Outcome {
         place: usize,
         /// The index of its first byte in the form.
         position: usize,
-        /// The byte that begins no length.
+        /// That byte.
         lead: u8,
     },
-    /// The number of a parameter's type is that of no type, or of one without a binary form.
+    /// The number of a parameter's type isn't that of a column type with a binary form.
     FormType {
         /// The number of the parameter, from 0.
         place: usize,
@@ -56,7 +56,7 @@ pub enum Outcome {
         place: usize,
         /// The index of the first byte of its name in the form.
         position: usize,
-        /// The bytes of the name.
+        /// The length of the name in bytes.
         len: usize,
     },
     /// The query has names and marks.
@@ -67,41 +67,41 @@ pub enum Outcome {
         place: usize,
         /// The index of the first byte of the name in the query, after its colon.
         position: usize,
-        /// The bytes of the name.
+        /// The length of the name in bytes.
         len: usize,
     },
     /// The parameters are named, and the query has no names.
     NamedForPositional,
     /// The parameters are positional, and the query has names.
     PositionalForNamed,
-    /// The query has no names, and its marks are not as many as the values.
+    /// The query has no names, and its marks aren't as many as the values.
     MarkCount {
-        /// The marks of the query.
+        /// The number of marks of the query.
         marks: usize,
-        /// The values given.
+        /// The number of values given.
         values: usize,
     },
-    /// A name or mark doesn't stand alone; of several it is the first.
+    /// A name or mark doesn't stand alone; the first such place is reported.
     NotAlone {
         /// Its number among the names and marks, from 0.
         place: usize,
         /// The index of its first byte in the query.
         position: usize,
     },
-    /// The value for a place is a float, which has no literal; of several it is the first.
+    /// The value for a place is a float, which has no literal; the first such place is reported.
     Float {
         /// The number of its place, from 0.
         place: usize,
     },
     /// The query has a backslash or a byte from 128 on; the first is reported. Only
-    /// [`bind_anywhere_into`](crate::bind_anywhere_into) refuses it.
+    /// [`bind_anywhere_into`](crate::bind_anywhere_into) returns it.
     Unsteady {
         /// Its index in the query.
         position: usize,
     },
     /// The query isn't portable; the first construct is reported. Only
     /// [`bind_anywhere_into`](crate::bind_anywhere_into) and
-    /// [`bind_in_both_modes_into`](crate::bind_in_both_modes_into) refuse it.
+    /// [`bind_in_both_modes_into`](crate::bind_in_both_modes_into) return it.
     Unportable {
         /// The number of the construct, as
         /// [`report_first_unportable`](crate::report_first_unportable) gives it.
@@ -110,28 +110,29 @@ pub enum Outcome {
         position: usize,
     },
     /// A string of the query holds a backslash; the first is reported. Only
-    /// [`bind_in_both_modes_into`](crate::bind_in_both_modes_into) refuses it.
+    /// [`bind_in_both_modes_into`](crate::bind_in_both_modes_into) returns it.
     Backslash {
         /// Its index in the query.
         position: usize,
     },
 }
 
-/// The fields of an outcome as numbers. Those that an outcome doesn't have are 0.
+/// The fields of an outcome as numbers. Fields that an outcome doesn't have are 0.
 #[derive(Clone, Copy, Debug, PartialEq, Eq)]
 #[repr(C)]
 pub struct Report {
-    /// The bytes of the answer, or of a name.
+    /// The length of the answer, or of a name, in bytes.
     pub len: usize,
     /// The number of a place of the query or of a parameter of the form, from 0.
     pub place: usize,
     /// The index of a byte in the query or in the form.
     pub position: usize,
-    /// The marks of the query.
+    /// The number of marks of the query.
     pub marks: usize,
-    /// The values given.
+    /// The number of values given.
     pub values: usize,
-    /// The byte that begins no length, or the number of a type or of a construct.
+    /// The byte FB or FF that begins a length-encoded string, or the number of a type or of a
+    /// construct.
     pub byte: usize,
 }
 
@@ -165,7 +166,8 @@ fn spot_fields(len: usize, place: usize, position: usize, byte: u8) -> Report
 
 impl Outcome {
     /// The number of the outcome's kind: 0 for `Done`, then in the order of the declaration to 16
-    /// for `Unportable`, and 18 for `Backslash`: 17 is that of a fragment that can't be written.
+    /// for `Unportable`, and 18 for `Backslash`. 17 is the number of a fragment that can't be
+    /// written.
     pub fn number(self) -> i32
         ensures number { result ≡ pos (number_of self) }
     {

@@ -1,4 +1,4 @@
-//! A table of the places of a query, made once and kept by the caller, and binding by it.
+//! A table of a query's places, which is made once and kept by the caller, and binding by it.
 ghost use Rattle.std.specs.Prelude.{◌≡◌, ◌⊎◌, ◌+◌, ◌≤◌, ◌<◌, ℕ, List, [], None, Some, Ok, pos, length, take, drop, IfErr, IfOk, IfSome, IsErrOf, OnErr};
 ghost use Rattle.mysql_named_params.specs.Reading.{OnTokensIn};
 ghost use Rattle.mysql_named_params.specs.Places.{HasMark, HasName};
@@ -28,7 +28,7 @@ use mysql_binding::{
 use mysql_named_params::places::Reading;
 use std::alloc::Global;
 
-/// What a table says of a query's places together.
+/// The head of a table: the facts about all places of a query together.
 #[derive(Clone, Copy, Debug, PartialEq, Eq)]
 #[repr(C)]
 pub struct TableHead {
@@ -38,7 +38,7 @@ pub struct TableHead {
     pub marks: usize,
     /// 0 if each name and mark stands alone.
     pub not_alone: usize,
-    /// The number of the first place that doesn't, from 0; else 0.
+    /// The number of the first place that doesn't stand alone, from 0; else 0.
     pub place: usize,
     /// The index of that place's first byte in the query; else 0.
     pub position: usize,
@@ -46,8 +46,8 @@ pub struct TableHead {
     pub piece_bytes: usize,
 }
 
-/// A query that was parsed once, to be bound many times: with its mode, and its table as the caller
-/// kept it.
+/// A query that was parsed once, to be bound many times: with its mode, and with its table, which
+/// the caller kept.
 #[derive(Clone, Copy, Debug)]
 pub struct Template<'q> {
     /// The query.
@@ -60,7 +60,7 @@ pub struct Template<'q> {
     pub places: &'q [PlaceSpan],
 }
 
-/// A [`Template`] of a query in any reading, which has to be that of the table.
+/// A [`Template`] for a query in any reading. It has to be the reading of the table.
 #[derive(Clone, Copy, Debug)]
 pub struct ReadTemplate<'q> {
     /// The query.
@@ -73,10 +73,10 @@ pub struct ReadTemplate<'q> {
     pub places: &'q [PlaceSpan],
 }
 
-/// What became of a call that binds by a table. After each except `Done` the room is as it was.
+/// The outcome of a call that binds by a table. After each one except `Done` the room is as it was.
 #[derive(Clone, Copy, Debug, PartialEq, Eq)]
 pub enum TableOutcome {
-    /// What becomes of a call that binds to the query; it is neither `Unsteady`, `Unportable` nor
+    /// An outcome of a call that binds to the query. It is never `Unsteady`, `Unportable` or
     /// `Backslash`.
     AsQuery(Outcome),
     /// The table isn't that of the query.
@@ -84,7 +84,7 @@ pub enum TableOutcome {
 }
 
 impl TableOutcome {
-    /// The number of the outcome's kind: that of an [`Outcome`], and 20 for another table.
+    /// The number of the outcome's kind: the number of an [`Outcome`], or 20 for another table.
     pub fn number(self) -> i32
         ensures number { result ≡ pos (number_of self) }
     {
@@ -105,12 +105,12 @@ impl TableOutcome {
     }
 }
 
-/// Makes the table of a query's places in a mode, to bind by it as often as wanted: its head, and
-/// at the front of the room where each place stands.
+/// Makes the table of a query's places in a mode: its head, and the position of each place, at the
+/// front of the room. The query can then be bound by it many times.
 ///
 /// `Done` has the number of the places; the rest of the room is unchanged. `Room` has the number of
-/// the places that the room would need; `OutOfMemory` comes only for a query with places. After
-/// both, head and room are as before.
+/// places that the room would need. `OutOfMemory` comes only for a query with places. After both,
+/// head and room are as before.
 pub fn table_into(
     alloc: Global,
     query: &[u8],
@@ -132,8 +132,8 @@ pub fn table_into(
     table_into_read(alloc, query, reading, head, room)
 }
 
-/// [`table_into`] of a query in any reading. The table doesn't say in which: bind by it in the same
-/// one, by [`bind_by_table_into_read`].
+/// [`table_into`] for a query in any reading. The table doesn't hold the reading: bind by it in the
+/// same reading, by [`bind_by_table_into_read`].
 pub fn table_into_read(
     alloc: Global,
     query: &[u8],
@@ -203,16 +203,18 @@ fn survey_of(head: TableHead) -> Survey
     }
 }
 
-/// Binds into a query what a form says by the query's table, exactly as
+/// Binds a form's parameters to a query by the query's table, exactly as
 /// [`bind_into`](crate::bind_into) does in the mode of the table: with its outcomes, and the text
-/// at the front of the room. The query isn't walked; only for `Missing` the place is looked up in
-/// it.
+/// at the front of the room. The query isn't walked, except for `Missing`, to look up the place.
 ///
-/// A table of another query, or of another mode, is told as `OtherTable` before the form is read if
-/// the query can't have it: if the places aren't as many as the head says, if one is empty or
-/// beyond the query, or if not so many bytes stand outside of them as the head says. Else any text
-/// or outcome may come; `OtherTable` then says that what is missing is no name of the query.
-/// Nothing is written behind the text, and after every outcome except `Done` the room is as before.
+/// A table of another query, or of another mode, is refused as `OtherTable` before the form is read
+/// if the query can't have it. It can't if the number of places isn't that of the head, if a place
+/// is empty or beyond the query, or if the number of bytes outside of the places isn't that of the
+/// head.
+///
+/// With a wrong table that passes this test any text or outcome may come. `OtherTable` then means
+/// that the query doesn't have the name that is missing. Nothing is written behind the text, and
+/// after every outcome except `Done` the room is as before.
 pub fn bind_by_table_into(
     alloc: Global,
     template: &Template<'_>,
@@ -258,9 +260,9 @@ pub fn bind_by_table_into(
     bind_by_table_into_read(alloc, &template, form, room)
 }
 
-/// [`bind_by_table_into`] of a query in any reading, exactly as
-/// [`bind_into_read`](crate::bind_into_read) binds in the reading of the table. What is said there
-/// of a table of another mode stands here of a table of another reading.
+/// [`bind_by_table_into`] for a query in any reading, exactly as
+/// [`bind_into_read`](crate::bind_into_read) binds in the reading of the table. A table of another
+/// reading is like a table of another mode there.
 pub fn bind_by_table_into_read(
     alloc: Global,
     template: &ReadTemplate<'_>,

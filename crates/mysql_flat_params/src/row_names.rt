@@ -1,5 +1,4 @@
-//! The names that rows have in common: where each place of the query has its value is found once
-//! for them all.
+//! The names that rows have in common: the index of each place's value is found once for all rows.
 ghost use Rattle.std.specs.Prelude.{◌≡◌, ◌≢◌, ◌<◌, ℕ, List, [], None, Some, IfSome, OnSome, length, true, slice_get};
 ghost use Rattle.std.specs.FinMap.{get};
 ghost use Rattle.mysql_value_core.specs.declared.value.Value.TheVariants.{UInt};
@@ -29,7 +28,7 @@ type NamePairs<'f> = Vec<(&'f [u8], ValueRef<'f>)>;
 // The same in a sorted map, which no choice of names makes slow, if there are more than a few.
 type SortedNames<'f> = Option<BTreeMap<&'f [u8], ValueRef<'f>>>;
 
-/// The names of a form, and where each place of a query has its value among those of the form.
+/// The names of a form, and the index of each place's value among the values of the form.
 #[derive(Drop)]
 pub(crate) struct FoundNames<'f> {
     /// The names in the order of the form, each with its value.
@@ -39,7 +38,7 @@ pub(crate) struct FoundNames<'f> {
 }
 
 impl<'f> FoundNames<'f> {
-    /// The names of a form by name that gives each name of the query a value. None for any other
+    /// The names of a form by name that gives each name of the query a value. `None` for any other
     /// form, for a query without names or with marks beside them, and if memory is refused.
     fn of_form(
         alloc: Global,
@@ -57,8 +56,8 @@ impl<'f> FoundNames<'f> {
         Some(FoundNames { pairs, places })
     }
 
-    /// Reads the values of a form, if it has just these names, byte for byte and in their order.
-    /// Otherwise it is false, and the names have other values.
+    /// Reads the values of a form, if it has exactly these names, byte for byte and in their order.
+    /// Otherwise it returns false, and some values may have changed.
     fn read_values(&mut self, form: &'f [u8]) -> bool
         requires some { 0 < length self.old.pairs.items }
         requires own { AreOwnNames (names_of_pairs self.old.pairs.items) }
@@ -70,7 +69,7 @@ impl<'f> FoundNames<'f> {
         read_under(form, self.pairs.as_mut_slice())
     }
 
-    /// The values for the places, in the memory of the spare list. None if memory is refused.
+    /// The values for the places, in the memory of the spare list. `None` if memory is refused.
     pub(crate) fn place_values(&self, spare: Vec<ValueRef<'f>>) -> Option<Vec<ValueRef<'f>>>
         requires { (wanted : List (List ℕ)) × AreAtPlaces (names_of_pairs self.now.pairs.items)
             self.now.places.items wanted }
@@ -113,15 +112,15 @@ fn value_at<'f>(pairs: &[(&'f [u8], ValueRef<'f>)], place: usize) -> ValueRef<'f
     value
 }
 
-/// What a row leaves to the rows after it.
+/// The memory that a row leaves to the rows after it.
 #[derive(Drop)]
 pub(crate) struct RowMemory<'f> {
     /// A list, for its memory.
     pub(crate) spare: Vec<ValueRef<'f>>,
-    /// The names of a row before, where they were found.
+    /// The names of an earlier row, if they were found.
     pub(crate) found: Option<FoundNames<'f>>,
-    /// In how many more rows names are looked for. Each row whose names were found before adds one,
-    /// so that rows which change their names cost little more than without this.
+    /// The number of further rows in which names are looked for. Each row whose names were found
+    /// before adds one. So rows that change their names cost little more than without this search.
     pub(crate) tries: u8,
 }
 
@@ -137,8 +136,8 @@ impl<'f> RowMemory<'f> {
         }
     }
 
-    /// The names of this form, with its values, and where each place has its value: those of a row
-    /// before, or else found now. None if they aren't found.
+    /// The names of this form, with its values, and the index of each place's value: those of an
+    /// earlier row, or else found now. `None` if they aren't found.
     pub(crate) fn names_of(
         &mut self,
         alloc: Global,

@@ -1,4 +1,4 @@
-//! Rows: one query, parsed once and bound to many forms, in a room that the caller lends.
+//! Rows: one query, parsed once and bound to many forms, in a room of the caller.
 ghost use Rattle.std.specs.Prelude.{◌≡◌, ◌+◌, ◌≤◌, ◌<◌, length, take, drop, ℕ, List, Ok, IfSome};
 ghost use Rattle.mysql_wire_part.specs.Lenenc.{length_spelling};
 ghost use Rattle.mysql_wire_part.specs.ParseBuf.{read_refusal};
@@ -29,15 +29,15 @@ use mysql_wire_part::{ParseBuf, WireError};
 use std::alloc::Global;
 use std::mem;
 
-/// How far a call has come that binds row after row.
+/// The progress of a call that binds row after row.
 #[derive(Clone, Copy, Debug, PartialEq, Eq)]
 #[repr(C)]
 pub struct Rows {
-    /// The rows that are bound, so the number, from 0, of the next one.
+    /// The number of rows that are bound. It is also the number of the next row, from 0.
     pub count: usize,
-    /// The bytes of the forms that they took: the form of the next row begins there.
+    /// The number of bytes of the forms that were read. The form of the next row begins there.
     pub read: usize,
-    /// The bytes of the room that their texts took: the text of the next row goes there.
+    /// The number of bytes of the room that their texts take. The text of the next row goes there.
     pub written: usize,
 }
 
@@ -51,14 +51,15 @@ const NO_ROWS: Rows = Rows {
 /// Binds a query, which is parsed once, to row after row. It writes the texts one after another to
 /// the front of the room, each as a length-encoded string.
 ///
-/// The forms of the rows stand one after another, each as a length-encoded string. Each row gives
+/// The forms of the rows come one after another, each as a length-encoded string. Each row gives
 /// the text, or the refusal, that [`bind_into`](crate::bind_into) gives for its form. `Done`, with
-/// the bytes of all texts, says that all rows are bound. Every other outcome is that of the row at
-/// which the call ends, and what stands before it is kept. The length of `Room` is that of this
-/// row's text as a length-encoded string. So a caller goes on from there with a room of at least so
-/// many bytes. If the form of a row isn't a length-encoded string, the outcome is `FormEnd` or
-/// `FormLengthLead` with place and position 0. `OutOfMemory` may come in place of any other outcome
-/// if a row is left. The room behind the texts is as before.
+/// the length of all texts, means that all rows are bound. Every other outcome is that of the row
+/// at which the call ends, and the texts of the rows before it are kept.
+///
+/// The length of `Room` is that of this row's text as a length-encoded string. So a caller goes on
+/// from this row with a room of at least that length. If the form of a row isn't a length-encoded
+/// string, the outcome is `FormEnd` or `FormLengthLead` with place and position 0. `OutOfMemory`
+/// may come in place of any other outcome if a row is left. The room behind the texts is as before.
 pub fn bind_rows_into(
     alloc: Global,
     query: &[u8],
@@ -83,7 +84,7 @@ pub fn bind_rows_into(
     bind_rows_into_read(alloc, query, forms, reading, room)
 }
 
-/// [`bind_rows_into`] of a query in any reading. Each row gives what
+/// [`bind_rows_into`] for a query in any reading. Each row gives the text, or the refusal, that
 /// [`bind_into_read`](crate::bind_into_read) gives for its form.
 pub fn bind_rows_into_read(
     alloc: Global,

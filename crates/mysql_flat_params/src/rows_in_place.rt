@@ -1,4 +1,4 @@
-//! Rows of values, kept where they lie.
+//! Rows of values, kept in the form's own bytes.
 ghost use Rattle.std.specs.Prelude.{◌≡◌, ◌*◌, ◌<◌, length};
 
 use mysql_fragments::RowsRef;

@@ -1,4 +1,4 @@
-//! Texts with steady literals, in a room that the caller lends.
+//! Texts with steady literals, in a room of the caller.
 ghost use Rattle.std.specs.Prelude.{◌≡◌, ◌⊎◌, ◌≤◌, ◌<◌, ℕ, Bool, false, true, [], None, Some, Ok, length, take, drop, IfErr, IfOk, IfSome, IsErrOf, OnErr, option_map};
 ghost use Rattle.mysql_named_params.specs.LoweredNames.{have_capitals};
 ghost use Rattle.mysql_named_params.specs.Places.{HasMark, HasName, names};
@@ -64,16 +64,16 @@ const WIDE_IN_BOTH_MODES: SteadyCall = SteadyCall {
     wide_names: true,
 };
 
-/// Binds into a query what a form says, as
-/// [`bind_text_anywhere`](mysql_steady_text::bind_text_anywhere) binds the form's parameters, and
-/// writes the text to the front of the room: SQL text that no `sql_mode` and no character set of a
-/// connection reads otherwise, on any server.
+/// Binds a form's parameters to a query, as
+/// [`bind_text_anywhere`](mysql_steady_text::bind_text_anywhere) does, and writes the text to the
+/// front of the room. No `sql_mode` and no character set of a connection changes how any server
+/// reads the text.
 ///
 /// Form, room, `Done` and `Room` are as for [`bind_into`](crate::bind_into). A form is refused
-/// before the query; then come `Unsteady` and `Unportable`, and then the causes of `bind_into`.
-/// Over the empty form `Unsteady`, `Unportable` and `Mixed` come without allocating, and a form
-/// that is refused for its first parameter is refused without allocating too. Any other outcome may
-/// be `OutOfMemory` instead. After every outcome except `Done` the room is as before.
+/// before the query. Then come `Unsteady` and `Unportable`, and then the causes of `bind_into`.
+/// Nothing is allocated for `Unsteady`, `Unportable` and `Mixed` over the empty form, and for a
+/// form that is refused for its first parameter. Any other outcome may be `OutOfMemory` instead.
+/// After every outcome except `Done` the room is as before.
 // A steady query has the same tokens in both modes (`mysql_portable::laws::steady_texts`).
 pub fn bind_anywhere_into(alloc: Global, query: &[u8], form: &[u8], room: &mut [u8]) -> Outcome
     ensures outcome { IsAnywhereOutcome query.now form.now result }
@@ -98,14 +98,14 @@ pub fn bind_anywhere_into(alloc: Global, query: &[u8], form: &[u8], room: &mut [
     bind_steady_into(alloc, query, form, ANYWHERE, room)
 }
 
-/// Binds into a query what a form says, as
-/// [`bind_text_in_both_modes`](mysql_steady_text::bind_text_in_both_modes) binds the form's
-/// parameters, and writes the text to the front of the room: SQL text that no `sql_mode` reads
-/// otherwise, on any server. The query may hold bytes from 128 on; the connection's character set
-/// has to be that of these, utf8mb4 for UTF-8.
+/// Binds a form's parameters to a query, as
+/// [`bind_text_in_both_modes`](mysql_steady_text::bind_text_in_both_modes) does, and writes the
+/// text to the front of the room. No `sql_mode` changes how any server reads the text. The query
+/// may hold bytes from 128 on. The connection's character set then has to be that of these bytes:
+/// utf8mb4 for UTF-8.
 ///
-/// All is as for [`bind_anywhere_into`], except that `Backslash`, for a backslash in a string of
-/// the query, comes in place of `Unsteady`.
+/// Everything else is as for [`bind_anywhere_into`], except that `Backslash`, for a backslash in a
+/// string of the query, comes in place of `Unsteady`.
 // A query without a backslash in its strings has the same tokens in both modes
 // (`mysql_portable::laws::modes_agree`).
 pub fn bind_in_both_modes_into(alloc: Global, query: &[u8], form: &[u8], room: &mut [u8]) -> Outcome
@@ -130,11 +130,11 @@ pub fn bind_in_both_modes_into(alloc: Global, query: &[u8], form: &[u8], room: &
     bind_steady_into(alloc, query, form, IN_BOTH_MODES, room)
 }
 
-/// Binds into a query what a form says, as [`bind_anywhere_into`] by wide names: as
-/// [`bind_wide_anywhere`](mysql_steady_text::bind_wide_anywhere) binds the form's parameters.
+/// [`bind_anywhere_into`] by wide names: it binds as
+/// [`bind_wide_anywhere`](mysql_steady_text::bind_wide_anywhere) does.
 ///
-/// All is as for [`bind_anywhere_into`], except that over the empty form `Unportable` and `Mixed`
-/// may be `OutOfMemory` instead, if a name has a capital.
+/// Everything else is as for [`bind_anywhere_into`], except that over the empty form `Unportable`
+/// and `Mixed` may be `OutOfMemory` instead if a name has a capital.
 pub fn bind_wide_anywhere_into(alloc: Global, query: &[u8], form: &[u8], room: &mut [u8]) -> Outcome
     ensures outcome { IsWideAnywhereOutcome query.now form.now result }
     ensures written { IfDone result (λ len.
@@ -162,12 +162,11 @@ pub fn bind_wide_anywhere_into(alloc: Global, query: &[u8], form: &[u8], room: &
     bind_steady_into(alloc, query, form, WIDE_ANYWHERE, room)
 }
 
-/// Binds into a query what a form says, as [`bind_in_both_modes_into`] by wide names: as
-/// [`bind_wide_in_both_modes`](mysql_steady_text::bind_wide_in_both_modes) binds the form's
-/// parameters.
+/// [`bind_in_both_modes_into`] by wide names: it binds as
+/// [`bind_wide_in_both_modes`](mysql_steady_text::bind_wide_in_both_modes) does.
 ///
-/// All is as for [`bind_wide_anywhere_into`], except that `Backslash`, for a backslash in a string
-/// of the query, comes in place of `Unsteady`.
+/// Everything else is as for [`bind_wide_anywhere_into`], except that `Backslash`, for a backslash
+/// in a string of the query, comes in place of `Unsteady`.
 pub fn bind_wide_in_both_modes_into(
     alloc: Global,
     query: &[u8],
@@ -200,7 +199,7 @@ pub fn bind_wide_in_both_modes_into(
     bind_steady_into(alloc, query, form, WIDE_IN_BOTH_MODES, room)
 }
 
-/// Which text a call gives, and so which queries it takes.
+/// The kind of text that a call gives, and so the queries that it takes.
 #[derive(Clone, Copy)]
 pub(crate) enum Steadiness {
     /// For any mode and any character set, of a query of ASCII without a backslash.
@@ -209,10 +208,10 @@ pub(crate) enum Steadiness {
     BothModes,
 }
 
-/// Which text a call gives, and by which names it reads the query.
+/// The kind of text that a call gives, and the names by which it reads the query.
 #[derive(Clone, Copy)]
 pub(crate) struct SteadyCall {
-    /// Which text.
+    /// The kind of text.
     pub steadiness: Steadiness,
     /// Whether by wide names, or by those of the grammar.
     pub wide_names: bool,
@@ -272,8 +271,8 @@ fn bind_steady_into(
     }
 }
 
-/// Why a query is refused whatever is given to it. If it isn't, the modes agree on it. Only a query
-/// that is copied asks for memory.
+/// The outcome for a query that is refused with any parameters. If there is none, the modes agree
+/// on the query. Memory is allocated only for a query that is copied.
 pub(crate) fn query_refusal(
     alloc: Global,
     query: &[u8],

@@ -16,8 +16,8 @@ use mysql_portable::wide::{first_unportable_in_client_wide, first_unportable_wid
 use std::alloc::Global;
 
 /// Finds the first construct for which a query isn't portable, as [`first_unportable`] does in a
-/// mode: returns its number, and writes its position to the report. It returns 0 if and only if the
-/// query is portable; the position is 0 then too.
+/// mode. It returns the number of the construct, and writes its position to the report. It returns
+/// 0 if and only if the query is portable. Then the position is 0 too.
 ///
 /// The numbers are 1 for [`Construct::ExecutableComment`], and then in the order of the
 /// declaration up to 9, 19 and 20. All other fields of the report are 0. Nothing is allocated.
@@ -33,7 +33,7 @@ pub fn report_first_unportable(query: &[u8], no_backslash_escape: bool, report: 
 }
 
 /// Finds the first construct for which a query isn't portable on servers and in a client that keeps
-/// comments, as [`first_unportable_in_client`] does in a mode, and tells it as
+/// comments, as [`first_unportable_in_client`] does in a mode, and reports it as
 /// [`report_first_unportable`] does. It returns 0 if and only if there is none.
 ///
 /// The numbers are 1 for [`Construct::ExecutableComment`], and then in the order of the
@@ -57,10 +57,10 @@ pub fn report_first_unportable_in_client(
 }
 
 /// Finds the first construct for which a query with wide names isn't portable, as
-/// [`first_unportable_wide`] does in a mode, and tells it as [`report_first_unportable`] does.
+/// [`first_unportable_wide`] does in a mode, and reports it as [`report_first_unportable`] does.
 ///
-/// It returns -1, with a report of zeros, if memory is refused for a copy of the query, which only
-/// a query with a capital in a name needs.
+/// It returns -1, with a report of zeros, if memory is refused for a copy of the query. Only a
+/// query with a capital in a name is copied.
 pub fn report_first_unportable_wide(
     alloc: Global,
     query: &[u8],
@@ -83,8 +83,8 @@ pub fn report_first_unportable_wide(
 }
 
 /// Finds the first construct for which a query with wide names isn't portable on servers and in a
-/// client that keeps comments, as [`first_unportable_in_client_wide`] does in a mode, and tells it
-/// as [`report_first_unportable_wide`] does.
+/// client that keeps comments, as [`first_unportable_in_client_wide`] does in a mode, and reports
+/// it as [`report_first_unportable_wide`] does.
 pub fn report_first_unportable_in_client_wide(
     alloc: Global,
     query: &[u8],
