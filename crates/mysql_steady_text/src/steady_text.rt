@@ -169,8 +169,8 @@ pub(crate) fn bind_steady(
     Ok(bind_borrowed_as(alloc, query, params, reading, &SteadyForm)?)
 }
 
-/// The cause for which [`bind_text_anywhere`](crate::bind_text_anywhere) refuses a query with any
-/// parameters: `Unsteady`, or else `Unportable`. For the crates above. It allocates nothing.
+/// The refusal of a query for which [`bind_text_anywhere`](crate::bind_text_anywhere) needn't look
+/// at parameters: `Unsteady`, or else `Unportable`. For the crates above. It allocates nothing.
 ///
 /// Most queries pass in one quick walk. If a byte is in doubt there, two more walks find the cause,
 /// or that there is none.
