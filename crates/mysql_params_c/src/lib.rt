@@ -1,15 +1,15 @@
 //! Binding for C, and for every language that calls C: the static library over `mysql_flat_params`.
 //!
-//! Each export except the last two writes its answer into the room that the caller lends and tells
-//! what became of the call: its result is the number of an [`Outcome`](mysql_flat_params::Outcome),
-//! and `report` has the outcome's fields. [`mysql_params_first_unportable`] and
-//! [`mysql_params_first_unportable_in_client`] tell a construct of a query by its number and, in
-//! `report`, its position. A slice comes from C as a pointer that is not null, also for no bytes,
-//! and a length of at most `isize::MAX`. Nothing is kept after a call. C passes nothing for the
-//! allocator.
+//! Each export except the last two writes its answer into the caller's room. Its result is the
+//! number of an [`Outcome`](mysql_flat_params::Outcome), and `report` has the outcome's fields.
+//! [`mysql_params_first_unportable`] and [`mysql_params_first_unportable_in_client`] return the
+//! number of a construct of a query, and `report` has its position. A slice comes from C as a
+//! pointer that is not null, also for no bytes, and a length of at most `isize::MAX`. Nothing is
+//! kept after a call. C passes nothing for the allocator.
 //!
 //! The contracts hold for callers that keep to `bindings/c/mysql_params.h`: `room` and `report`
-//! overlap neither each other nor what is read, and their bytes have values before the call.
+//! overlap neither each other nor the bytes that are read, and their bytes have values before the
+//! call.
 #![tactic(auto)]
 
 pub mod wide;
@@ -42,14 +42,14 @@ use mysql_flat_params::{
 };
 use std::alloc::Global;
 
-/// Writes the query with `?` in place of each name, and then each name, each as a length-encoded
-/// string, to the front of the room: [`names_into`](mysql_flat_params::names_into).
+/// Writes the query with `?` in place of each name, and then the names, to the front of the room,
+/// each as a length-encoded string: [`names_into`](mysql_flat_params::names_into).
 ///
 /// Returns 0 (`Done`) with the length of the answer in the report's `len`, 2 (`Room`) with the
-/// length that the room would need, 8 (`Mixed`) for a query with names and marks, or, for a query
-/// with names and without marks, in place of 0 and 2, 1 (`OutOfMemory`). All other fields of the
-/// report are 0. At each number but 0 the room is as before. The flag is true if the connection's
-/// `sql_mode` has `NO_BACKSLASH_ESCAPES`.
+/// length that the room would need, or 8 (`Mixed`) for a query with names and marks. For a query
+/// with names and without marks 1 (`OutOfMemory`) may come in place of 0 and 2. All other fields of
+/// the report are 0. At each number except 0 the room is as before. The flag is true if the
+/// connection's `sql_mode` has `NO_BACKSLASH_ESCAPES`.
 #[unsafe(no_mangle)]
 pub extern "C" fn mysql_params_names(
     alloc: Global,
@@ -79,15 +79,15 @@ pub extern "C" fn mysql_params_names(
     outcome.number()
 }
 
-/// Binds into the query what the form says, and writes the text to the front of the room:
+/// Binds the form's parameters to the query, and writes the text to the front of the room:
 /// [`bind_into`](mysql_flat_params::bind_into).
 ///
-/// Returns the number of any [`Outcome`](mysql_flat_params::Outcome): 0 (`Done`) with the length of
+/// Returns the number of an [`Outcome`](mysql_flat_params::Outcome): 0 (`Done`) with the length of
 /// the text in the report's `len`, 2 (`Room`) with the length that the room would need, 3 to 7 for
-/// a form that is refused, 8 to 14 for a query that is refused, or 1 (`OutOfMemory`), but not for
-/// the empty form over a query with names and marks, nor for a form that is refused for its first
-/// parameter. The report has the fields of the outcome, and 0 in all others. At each number but 0
-/// the room is as before. The flag is true if the connection's `sql_mode` has
+/// a form that is refused, 8 to 14 for a query that is refused, or 1 (`OutOfMemory`). It never
+/// returns 1 for the empty form over a query with names and marks, or for a form that is refused
+/// for its first parameter. The report has the fields of the outcome, and 0 in all others. At each
+/// number except 0 the room is as before. The flag is true if the connection's `sql_mode` has
 /// `NO_BACKSLASH_ESCAPES`.
 #[unsafe(no_mangle)]
 pub extern "C" fn mysql_params_bind(
@@ -119,16 +119,19 @@ pub extern "C" fn mysql_params_bind(
     outcome.number()
 }
 
-/// Binds into the query what the form says, and writes to the front of the room a text that no
-/// `sql_mode` and no character set of a connection reads otherwise, on any server:
-/// [`bind_anywhere_into`](mysql_flat_params::bind_anywhere_into).
+/// Binds the form's parameters to the query, and writes to the front of the room a text for any
+/// server: [`bind_anywhere_into`](mysql_flat_params::bind_anywhere_into). No `sql_mode` and no
+/// character set of a connection changes how any server reads the text.
 ///
-/// It returns the numbers of [`mysql_params_bind`], and after those for a form and before those for
-/// a query 15 (`Unsteady`) for a query with a backslash or a byte from 128 on, whose position is in
-/// the report, and 16 (`Unportable`) for one that isn't portable, with the position and, in `byte`,
-/// the number of the construct that [`mysql_params_first_unportable`] returns. The empty form over
-/// such a query, or over one with names and marks, never gives 1 (`OutOfMemory`), nor does a form
-/// that is refused for its first parameter. At each number but 0 the room is as before.
+/// It returns the numbers of [`mysql_params_bind`] and two more, which come after those for a form
+/// and before those for a query. 15 (`Unsteady`) is for a query with a backslash or a byte from 128
+/// on, whose position is in the report. 16 (`Unportable`) is for a query that isn't portable. The
+/// report then has the position of the construct and, in `byte`, the number that
+/// [`mysql_params_first_unportable`] returns.
+///
+/// The empty form over such a query, or over a query with names and marks, never gives 1
+/// (`OutOfMemory`), nor does a form that is refused for its first parameter. At each number except
+/// 0 the room is as before.
 #[unsafe(no_mangle)]
 pub extern "C" fn mysql_params_bind_anywhere(
     alloc: Global,
@@ -160,14 +163,14 @@ pub extern "C" fn mysql_params_bind_anywhere(
     outcome.number()
 }
 
-/// Binds into the query what the form says, and writes to the front of the room a text that no
-/// `sql_mode` reads otherwise, on any server:
-/// [`bind_in_both_modes_into`](mysql_flat_params::bind_in_both_modes_into). The query may have
-/// bytes from 128 on; the connection's character set has to be that of these, utf8mb4 for UTF-8.
+/// Binds the form's parameters to the query, and writes to the front of the room a text for both
+/// modes and any server: [`bind_in_both_modes_into`](mysql_flat_params::bind_in_both_modes_into).
+/// No `sql_mode` changes how any server reads the text. The query may have bytes from 128 on. The
+/// connection's character set then has to be that of these bytes: utf8mb4 for UTF-8.
 ///
 /// It returns the numbers of [`mysql_params_bind_anywhere`], with 18 (`Backslash`) in place of 15:
-/// for a query of which a string holds a backslash, whose position is in the report. All else is as
-/// there.
+/// for a query with a backslash in a string, whose position is in the report. Everything else is
+/// the same.
 #[unsafe(no_mangle)]
 pub extern "C" fn mysql_params_bind_in_both_modes(
     alloc: Global,
@@ -201,15 +204,15 @@ pub extern "C" fn mysql_params_bind_in_both_modes(
 
 /// Binds the query, which is parsed once, to row after row, and writes the texts one after another,
 /// each as a length-encoded string, to the front of the room:
-/// [`bind_rows_into`](mysql_flat_params::bind_rows_into). The forms of the rows stand one after
+/// [`bind_rows_into`](mysql_flat_params::bind_rows_into). The forms of the rows come one after
 /// another, each as a length-encoded string.
 ///
-/// Returns 0 (`Done`) if all rows are bound, with the bytes of all texts in the report's `len`.
-/// Else it returns the number of the [`Outcome`](mysql_flat_params::Outcome) of the row at which it
-/// ends, and the report has that outcome's fields: of 2 (`Room`) `len` is that of this row's text
-/// as a length-encoded string. Either way `rows` has the rows that are bound, and the bytes of
-/// their forms and of their texts; the room behind these is as before. The flag is true if the
-/// connection's `sql_mode` has `NO_BACKSLASH_ESCAPES`.
+/// Returns 0 (`Done`) if all rows are bound, with the length of all texts in the report's `len`.
+/// Otherwise it returns the number of the [`Outcome`](mysql_flat_params::Outcome) of the row at
+/// which it ends, and the report has that outcome's fields. For 2 (`Room`) `len` is the length of
+/// this row's text as a length-encoded string. Either way `rows` has the number of rows that are
+/// bound, and the lengths of their forms and of their texts. The room behind the texts is as
+/// before. The flag is true if the connection's `sql_mode` has `NO_BACKSLASH_ESCAPES`.
 #[unsafe(no_mangle)]
 pub extern "C" fn mysql_params_bind_rows(
     alloc: Global,
@@ -236,14 +239,13 @@ pub extern "C" fn mysql_params_bind_rows(
     outcome.number()
 }
 
-/// Makes the table of the query's places, to bind by it as often as wanted:
+/// Makes the table of the query's places, by which the query can be bound many times:
 /// [`table_into`](mysql_flat_params::table_into).
 ///
-/// Returns 0 (`Done`) with the number of the places in the report's `len`: then `head` is the
-/// table's, and so many items at the front of the room are its places. It returns 2 (`Room`) with
-/// the number of the places in `len`, or, for a query with places, 1 (`OutOfMemory`); after both
-/// head and room are as before. The flag is true if the connection's `sql_mode` has
-/// `NO_BACKSLASH_ESCAPES`.
+/// Returns 0 (`Done`) with the number of places in the report's `len`. Then `head` is the head of
+/// the table, and the first `len` items of the room are its places. It returns 2 (`Room`) with the
+/// number of places in `len`, or, for a query with places, 1 (`OutOfMemory`). After both, head and
+/// room are as before. The flag is true if the connection's `sql_mode` has `NO_BACKSLASH_ESCAPES`.
 #[unsafe(no_mangle)]
 pub extern "C" fn mysql_params_table(
     alloc: Global,
@@ -264,14 +266,14 @@ pub extern "C" fn mysql_params_table(
     outcome.number()
 }
 
-/// Binds into the query what the form says by the query's table, and writes the text to the front
+/// Binds the form's parameters to the query by the query's table, and writes the text to the front
 /// of the room: [`bind_by_table_into`](mysql_flat_params::bind_by_table_into).
 ///
-/// With the table that [`mysql_params_table`] made of this query with this flag, it returns what
-/// [`mysql_params_bind`] returns, and the report has the same fields. With any other table it
-/// returns 20 (`OtherTable`) if the query can't have it. Else it returns any of those numbers, or
-/// 20 for a missing name that the query doesn't have. It writes nothing behind the text, and at
-/// each number except 0 the room is as before.
+/// With the table that [`mysql_params_table`] made of this query with this flag, it returns the
+/// number that [`mysql_params_bind`] returns, and the report has the same fields. With any other
+/// table it returns 20 (`OtherTable`) if the query can't have it. Otherwise it returns any of those
+/// numbers, or 20 for a missing name that the query doesn't have. It writes nothing behind the
+/// text, and at each number except 0 the room is as before.
 #[unsafe(no_mangle)]
 pub extern "C" fn mysql_params_bind_template(
     alloc: Global,
@@ -312,17 +314,19 @@ pub extern "C" fn mysql_params_bind_template(
     outcome.number()
 }
 
-/// Binds into the query the fragments that the form says, and writes the text to the front of the
-/// room: [`bind_fragments_into`](mysql_flat_params::bind_fragments_into).
+/// Binds the form's fragments to the query, and writes the text to the front of the room:
+/// [`bind_fragments_into`](mysql_flat_params::bind_fragments_into).
 ///
 /// The form is that of [`mysql_params_bind`] with eight types more, for an exact number, a list,
 /// rows, an identifier, a qualified one, a keyword, identifiers and assignments
-/// ([`form_fragments`](mysql_flat_params::form_fragments)). It returns the numbers of
-/// [`mysql_params_bind`], and after those for a query 17 (`Fault`) for a fragment that can't be
-/// written: then the report has its place, in `byte` the number of the fault, in `position` the row
-/// and in `values` the item or the part of the name. Any other number may be 1 (`OutOfMemory`)
-/// instead, except 8 (`Mixed`) with the empty form. At each number but 0 the room is as before. The
-/// flag is true if the connection's `sql_mode` has `NO_BACKSLASH_ESCAPES`.
+/// ([`form_fragments`](mysql_flat_params::form_fragments)).
+///
+/// It returns the numbers of [`mysql_params_bind`], and after those for a query 17 (`Fault`) for a
+/// fragment that can't be written. The report then has the fragment's place, the number of the
+/// fault in `byte`, the row in `position`, and the item or the part of the name in `values`. Any
+/// other number may be 1 (`OutOfMemory`) instead, except 8 (`Mixed`) with the empty form. At each
+/// number except 0 the room is as before. The flag is true if the connection's `sql_mode` has
+/// `NO_BACKSLASH_ESCAPES`.
 #[unsafe(no_mangle)]
 pub extern "C" fn mysql_params_bind_fragments(
     alloc: Global,
@@ -350,14 +354,15 @@ pub extern "C" fn mysql_params_bind_fragments(
     outcome.number()
 }
 
-/// Binds into the query the fragments that the form says, and writes to the front of the room a
-/// text that no `sql_mode` and no character set of a connection reads otherwise, on any server:
-/// [`bind_fragments_anywhere_into`](mysql_flat_params::bind_fragments_anywhere_into).
+/// Binds the form's fragments to the query, and writes to the front of the room a text for any
+/// server: [`bind_fragments_anywhere_into`](mysql_flat_params::bind_fragments_anywhere_into). No
+/// `sql_mode` and no character set of a connection changes how any server reads the text.
 ///
-/// It returns the numbers of [`mysql_params_bind_fragments`], and after those for a form and before
-/// those for a query 15 (`Unsteady`) and 16 (`Unportable`) as [`mysql_params_bind_anywhere`], and
-/// after all of them 19 (`UnsteadyFragment`) for a fragment with a name that has a backslash or a
-/// byte from 128 on, whose place is in the report. At each number but 0 the room is as before.
+/// It returns the numbers of [`mysql_params_bind_fragments`] and three more. 15 (`Unsteady`) and 16
+/// (`Unportable`) come after those for a form and before those for a query, as in
+/// [`mysql_params_bind_anywhere`]. 19 (`UnsteadyFragment`) comes after all others: a fragment has a
+/// name with a backslash or a byte from 128 on, and the report has its place. At each number except
+/// 0 the room is as before.
 #[unsafe(no_mangle)]
 pub extern "C" fn mysql_params_bind_fragments_anywhere(
     alloc: Global,
@@ -383,10 +388,10 @@ pub extern "C" fn mysql_params_bind_fragments_anywhere(
 /// Finds the first construct of the query that servers read in different ways, or in which a value
 /// would join a number: [`report_first_unportable`].
 ///
-/// Returns 0 if and only if there is none: then the query is portable. Else it returns the
-/// number of the [`Construct`](mysql_portable::portable::Construct), in the order of its
-/// declaration 1 to 9, 19 or 20, and the report has its position in the query. All other fields of
-/// the report are 0. Nothing is allocated. The flag is true if the connection's `sql_mode` has
+/// Returns 0 if and only if there is none: then the query is portable. Otherwise it returns the
+/// number of the [`Construct`](mysql_portable::portable::Construct), 1 to 9, 19 or 20 in the order
+/// of its declaration, and the report has its position in the query. All other fields of the report
+/// are 0. Nothing is allocated. The flag is true if the connection's `sql_mode` has
 /// `NO_BACKSLASH_ESCAPES`.
 #[unsafe(no_mangle)]
 pub extern "C" fn mysql_params_first_unportable(
@@ -404,12 +409,12 @@ pub extern "C" fn mysql_params_first_unportable(
     report_first_unportable(query, no_backslash_escape, report)
 }
 
-/// Finds the first construct of the query for which it isn't portable, or for which a client that
-/// keeps comments reads or sends something else: [`report_first_unportable_in_client`].
+/// Finds the first construct for which the query isn't portable, or which a client that keeps
+/// comments reads or sends in another way: [`report_first_unportable_in_client`].
 ///
-/// Returns 0 if and only if there is none. Else it returns the number of the
-/// [`Construct`](mysql_portable::portable::Construct), 1 to 20 in the order of its declaration,
-/// and the report has its position in the query. All other fields of the report are 0. Nothing is
+/// Returns 0 if and only if there is none. Otherwise it returns the number of the
+/// [`Construct`](mysql_portable::portable::Construct), 1 to 20 in the order of its declaration, and
+/// the report has its position in the query. All other fields of the report are 0. Nothing is
 /// allocated. The flag is true if the connection's `sql_mode` has `NO_BACKSLASH_ESCAPES`.
 #[unsafe(no_mangle)]
 pub extern "C" fn mysql_params_first_unportable_in_client(

@@ -265,7 +265,7 @@ pub extern "C" fn mysql_params_bind_fragments_wide(
 /// [`bind_wide_anywhere_into`](mysql_flat_params::bind_wide_anywhere_into).
 ///
 /// Numbers, report and room are as there, except that over the empty form 16 (`Unportable`) and 8
-/// (`Mixed`) may be 1 (`OutOfMemory`) instead, if a name has a capital.
+/// (`Mixed`) may be 1 (`OutOfMemory`) instead if a name has a capital.
 #[unsafe(no_mangle)]
 pub extern "C" fn mysql_params_bind_anywhere_wide(
     alloc: Global,
@@ -305,7 +305,7 @@ pub extern "C" fn mysql_params_bind_anywhere_wide(
 /// [`bind_wide_in_both_modes_into`](mysql_flat_params::bind_wide_in_both_modes_into).
 ///
 /// Numbers, report and room are as there, except that over the empty form 16 (`Unportable`) and 8
-/// (`Mixed`) may be 1 (`OutOfMemory`) instead, if a name has a capital.
+/// (`Mixed`) may be 1 (`OutOfMemory`) instead if a name has a capital.
 #[unsafe(no_mangle)]
 pub extern "C" fn mysql_params_bind_in_both_modes_wide(
     alloc: Global,
@@ -368,11 +368,11 @@ pub extern "C" fn mysql_params_bind_fragments_anywhere_wide(
     outcome.number()
 }
 
-/// [`mysql_params_first_unportable`](crate::mysql_params_first_unportable) of a query with wide
+/// [`mysql_params_first_unportable`](crate::mysql_params_first_unportable) for a query with wide
 /// names: [`report_first_unportable_wide`].
 ///
 /// Number and report are as there, except that it returns -1, with a report of zeros, if memory is
-/// refused for a copy of the query, which only a query with a capital in a name needs.
+/// refused for a copy of the query. Only a query with a capital in a name is copied.
 #[unsafe(no_mangle)]
 pub extern "C" fn mysql_params_first_unportable_wide(
     alloc: Global,
@@ -392,11 +392,11 @@ pub extern "C" fn mysql_params_first_unportable_wide(
     report_first_unportable_wide(alloc, query, no_backslash_escape, report)
 }
 
-/// [`mysql_params_first_unportable_in_client`](crate::mysql_params_first_unportable_in_client) of a
-/// query with wide names: [`report_first_unportable_in_client_wide`].
+/// [`mysql_params_first_unportable_in_client`](crate::mysql_params_first_unportable_in_client) for
+/// a query with wide names: [`report_first_unportable_in_client_wide`].
 ///
-/// Number and report are as there, except for -1, as
-/// [`mysql_params_first_unportable_wide`] returns it.
+/// Number and report are as there, except for -1, which comes as from
+/// [`mysql_params_first_unportable_wide`].
 #[unsafe(no_mangle)]
 pub extern "C" fn mysql_params_first_unportable_in_client_wide(
     alloc: Global,
