@@ -1,6 +1,6 @@
--- Queries that fit exactly what is given to them, so that only memory refuses to bind them: facts
--- that the prover computes for a constant query. A mode is the flag `no_backslash_escape`: `true`
--- is the mode without backslash escapes.
+-- Queries that fit exactly the parameters that are given to them, so that out of memory is the only
+-- error of binding them. The prover computes these facts for a constant query. A mode is the flag
+-- `no_backslash_escape`: `true` is the mode without backslash escapes.
 use Rattle.std.specs.Prelude.{◌≡◌, ◌<◌, ℕ, Bool, true, false, not, ◌&&◌, List, [], ◌∷◌, ◌++◌, length, map, None, Ok, Err, IsTrue}
 use Rattle.std.specs.List.{list_all, list_any}
 use Rattle.std.specs.Ordering.{eq_by_cmp, nat_cmp}
@@ -35,7 +35,7 @@ abbrev pub are_new : List (List ℕ) → List (List ℕ) → Bool
 are_new known [] = true
 are_new known (name ∷ names) = not (is_among known name) && are_new (known ++ name ∷ []) names
 
--- whether the thing has a value, and that is no float
+-- whether the thing has a value, which isn't a float
 abbrev pub has_literal : Meaning → Bool
 has_literal (Ok value) = not (is_float value)
 has_literal (Err duration) = false
@@ -44,8 +44,8 @@ has_literal (Err duration) = false
 abbrev pub have_literals : List (List ℕ × Meaning) → Bool
 have_literals pairs = list_all (λ pair. has_literal pair.1) pairs
 
--- a query of these tokens fits these pairs of a name and a thing: only memory refuses to bind it
--- to them, and each of them is used
+-- a query of these tokens fits these pairs of a name and a thing: out of memory is the only error
+-- of binding it to them, and each pair is used
 pub record Fits (ts : List Token) (pairs : List (List ℕ × Meaning)) : Type 0 where
   -- it has a name and no mark,
   pub has_name : 0 < length (names ts)
@@ -55,9 +55,9 @@ pub record Fits (ts : List Token) (pairs : List (List ℕ × Meaning)) : Type 0 
   -- each of its names is that of a pair, and each pair's name is one of its names,
   pub given : IsTrue (list_all (is_among (pair_names pairs)) (names ts))
   pub wanted : IsTrue (list_all (is_among (names ts)) (pair_names pairs))
-  -- no name stands twice among the pairs,
+  -- no two pairs have the same name,
   pub differ : IsTrue (are_new [] (pair_names pairs))
-  -- and each thing has a value, and no float.
+  -- and each thing has a value, which isn't a float.
   pub literals : IsTrue (have_literals pairs)
 
 -- the query fits these pairs, by the names of the grammar
@@ -70,7 +70,7 @@ valued [] = []
 valued ((name, Ok value) ∷ pairs) = (name, value) ∷ valued pairs
 valued ((name, Err duration) ∷ pairs) = valued pairs
 
--- what pairs of a name and a value give to a query
+-- the parameters that pairs of a name and a value give to a query
 abbrev pub given_by : List (List ℕ × Value) → Given
 given_by pairs = named (from_entries pairs)
 
@@ -86,7 +86,8 @@ abbrev pub values_of : Made → List Value
 values_of (Ok (positional values)) = values
 values_of made = []
 
--- the query fits what things made, by position: only memory refuses to bind it to that
+-- the query fits the parameters that things made, by position: out of memory is the only error of
+-- binding it to them
 pub record IsBindableByPosition (mode : Bool) (query : List ℕ) (made : Made) : Type 0 where
   -- these are values by position, or nothing,
   pub by_position : IsTrue (is_by_position made)

@@ -1,6 +1,6 @@
--- Queries that fit exactly what is given to them and may be bound for any mode and any server, so
--- that only memory refuses it, and the text: facts that the prover computes for a constant query.
--- Such a query has the same tokens in both modes.
+-- Queries that fit exactly the parameters that are given to them and may be bound for any mode and
+-- any server, so that out of memory is the only error, and the text. The prover computes these
+-- facts for a constant query. Such a query has the same tokens in both modes.
 use Rattle.std.specs.Prelude.{◌≡◌, ℕ, List, None}
 use Rattle.mysql_sql_text.specs.StringUnits.{with_backslashes}
 use Rattle.mysql_values.specs.declared.value.Value.{Value}
@@ -14,7 +14,8 @@ use Rattle.mysql_steady_text.specs.SteadyLiteral.{steady_literal_text}
 use Rattle.mysql_fixed_query.specs.Bindable.{Fits, IsBindable, IsBindableByPosition, wide_tokens_of}
 use Rattle.mysql_fixed_query.specs.FixedText.{text_with}
 
--- only memory refuses to bind the query to these pairs of a name and a thing, for any server
+-- out of memory is the only error of binding the query to these pairs of a name and a thing, for
+-- any server
 pub record IsBindableAnywhere (query : List ℕ) (pairs : List (List ℕ × Meaning)) : Type 0 where
   -- it is ASCII without a backslash,
   pub steady : IsSteady query
@@ -23,7 +24,7 @@ pub record IsBindableAnywhere (query : List ℕ) (pairs : List (List ℕ × Mean
   -- and it fits the pairs.
   pub bindable : IsBindable with_backslashes query pairs
 
--- only memory refuses to bind the query to these pairs by wide names, for any server
+-- out of memory is the only error of binding the query to these pairs by wide names, for any server
 pub record IsWideBindableAnywhere (query : List ℕ) (pairs : List (List ℕ × Meaning))
     : Type 0 where
   pub steady : IsSteady query
@@ -32,7 +33,8 @@ pub record IsWideBindableAnywhere (query : List ℕ) (pairs : List (List ℕ × 
   -- and by wide names it fits the pairs.
   pub bindable : Fits (wide_tokens_of with_backslashes query) pairs
 
--- only memory refuses to bind the query to what things made, by position, for any server
+-- out of memory is the only error of binding the query to the parameters that things made, by
+-- position, for any server
 pub record IsBindableAnywhereByPosition (query : List ℕ) (made : Made) : Type 0 where
   pub steady : IsSteady query
   pub portable : first_unportable (tokens_of with_backslashes query) ≡ None

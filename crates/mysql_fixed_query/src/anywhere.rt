@@ -14,12 +14,12 @@ use mysql_steady_text::SteadyForm;
 use std::alloc::{AllocError, Global};
 
 /// The query with the steady literals of the values in the places of its names, as
-/// [`bind_text_anywhere`](mysql_steady_text::bind_text_anywhere) gives it: text that no `sql_mode`
-/// and no character set of a connection reads otherwise, on any server.
+/// [`bind_text_anywhere`](mysql_steady_text::bind_text_anywhere) gives it. No `sql_mode` and no
+/// character set of a connection changes how any server reads the text.
 ///
-/// The caller proves that nothing refuses it: the query is ASCII without a backslash, and portable,
-/// and what [`bind_named`](crate::bind_named) asks for. For a constant query the prover computes
-/// that by itself. So the only error is out of memory. For example
+/// The caller proves the same as for [`bind_named`](crate::bind_named), and that the query is
+/// portable and ASCII without a backslash. For a constant query the prover computes this by itself.
+/// So the only error is out of memory. For example,
 /// `bind_named_anywhere(alloc, b"SELECT a FROM t WHERE b = :b", &(("b", "x"),))`.
 pub fn bind_named_anywhere<P: ToPairs>(
     alloc: Global,
@@ -39,9 +39,10 @@ pub fn bind_named_anywhere<P: ToPairs>(
     bind_made(alloc, query, pairs.to_named(alloc), reading, &SteadyForm)
 }
 
-/// The query with the steady literals of the values in the places of its marks, in order: as
-/// [`bind_named_anywhere`], with what [`bind_positional`](crate::bind_positional) asks for. For
-/// example `bind_positional_anywhere(alloc, b"SELECT a FROM t WHERE b = ?", &("x",))`.
+/// The query with the steady literals of the values in the places of its marks, in order: like
+/// [`bind_named_anywhere`], but the caller proves the same as for
+/// [`bind_positional`](crate::bind_positional). For example,
+/// `bind_positional_anywhere(alloc, b"SELECT a FROM t WHERE b = ?", &("x",))`.
 pub fn bind_positional_anywhere<P: ToParams>(
     alloc: Global,
     query: &[u8],

@@ -16,10 +16,10 @@ use std::alloc::{AllocError, Global};
 /// as [`bind_text_in`](mysql_binding::bind_text_in) gives it. The flag is the mode: with `true` a
 /// backslash is a byte like any other.
 ///
-/// The caller proves that nothing refuses it: the query has a name and no mark, each of its places
-/// stands alone, its names are exactly those of the pairs, which differ, and each thing has a value
-/// and no float. For a constant query the prover computes that by itself. So the only error is out
-/// of memory.
+/// The caller proves that nothing refuses it. The query has a name and no mark, and each of its
+/// places stands alone. Its names are exactly those of the pairs, which differ. Each thing has a
+/// value, which isn't a float. For a constant query the prover computes this by itself. So the only
+/// error is out of memory.
 pub fn bind_named_in<P: ToPairs>(
     alloc: Global,
     query: &[u8],
@@ -44,9 +44,8 @@ pub fn bind_named_in<P: ToPairs>(
 }
 
 /// The query with the literals of the values in the places of its names, in the mode in which a
-/// backslash escapes: [`bind_named_in`] with `false`, which says what the caller proves. For
-/// example `bind_named(alloc, b"SELECT a FROM t WHERE b = :b", &(("b", 7),))`, with the query a
-/// constant.
+/// backslash escapes: [`bind_named_in`] with `false`. The caller proves the same. For example,
+/// `bind_named(alloc, b"SELECT a FROM t WHERE b = :b", &(("b", 7),))`, with the query a constant.
 pub fn bind_named<P: ToPairs>(alloc: Global, query: &[u8], pairs: &P) -> Result<Vec<u8>, AllocError>
     requires { IsBindable with_backslashes query.now (P.pairs pairs.now) }
     ensures bound { IfOk result (λ text. IsBoundText with_backslashes

@@ -16,9 +16,9 @@ use std::alloc::{AllocError, Global};
 /// server, as [`bind_text_in`](mysql_binding::bind_text_in) gives it. The flag is the mode: with
 /// `true` a backslash is a byte like any other.
 ///
-/// The caller proves that nothing refuses it: the things make values by position, or nothing, the
-/// query has no name, and as many marks as there are values, each of its places stands alone, and
-/// no value is a float. For a constant query and a tuple of things the prover computes that by
+/// The caller proves that nothing refuses it. The things make values by position, or nothing. The
+/// query has no name, and as many marks as there are values. Each of its places stands alone, and
+/// no value is a float. For a constant query and a tuple of things the prover computes this by
 /// itself. So the only error is out of memory. A query without places takes `&()`.
 pub fn bind_positional_in<P: ToParams>(
     alloc: Global,
@@ -44,9 +44,9 @@ pub fn bind_positional_in<P: ToParams>(
 }
 
 /// The query with the literals of the values in the places of its marks, in order, in the mode in
-/// which a backslash escapes: [`bind_positional_in`] with `false`, which says what the caller
-/// proves. For example `bind_positional(alloc, b"SELECT a FROM t WHERE b = ?", &(7,))`, with the
-/// query a constant.
+/// which a backslash escapes: [`bind_positional_in`] with `false`. The caller proves the same. For
+/// example, `bind_positional(alloc, b"SELECT a FROM t WHERE b = ?", &(7,))`, with the query a
+/// constant.
 pub fn bind_positional<P: ToParams>(
     alloc: Global,
     query: &[u8],

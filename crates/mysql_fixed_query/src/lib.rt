@@ -1,10 +1,11 @@
-//! Fixed queries: those that are constants of a program and are proved bindable. What the prover
-//! computes of such a query stands in `specs/Bindable.antt`; only memory then refuses to bind it.
+//! Fixed queries: constants of a program that are proved bindable. `specs/Bindable.antt` defines
+//! the facts that the prover computes about such a query. The only error of binding it is then out
+//! of memory.
 //!
-//! [`bind_named`] takes values by name, [`bind_positional`] by position, in the mode in which a
-//! backslash escapes; [`bind_named_in`] and [`bind_positional_in`] take the mode;
+//! [`bind_named`] takes values by name, and [`bind_positional`] by position, in the mode in which a
+//! backslash escapes. [`bind_named_in`] and [`bind_positional_in`] take the mode.
 //! [`bind_named_anywhere`] and [`bind_positional_anywhere`] give text for any mode and any server.
-//! [`bind_wide_named`] and the two beside it take names with capitals.
+//! The calls with `wide` in their names, such as [`bind_wide_named`], take names with capitals.
 #![tactic(auto)]
 
 mod anywhere;

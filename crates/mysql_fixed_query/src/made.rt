@@ -1,4 +1,4 @@
-//! Binding to parameters that only memory refuses.
+//! Binding to parameters with out of memory as the only error.
 ghost use Rattle.std.specs.Prelude.{◌≡◌, ◌≢◌, None, Ok, IfErr, IfOk, alloc_error, ⊤};
 ghost use Rattle.mysql_values.specs.Answer.{IsAnswer};
 ghost use Rattle.mysql_values.specs.declared.value.convert.ToValueError.TheVariants as to_value;
@@ -13,8 +13,8 @@ use mysql_named_params::places::Reading;
 use mysql_params_core::params::{Params, ToParamsError};
 use std::alloc::{AllocError, Global};
 
-// The text of a query in a reading with what was made for it, with literals of any form. Only
-// memory refuses to make the parameters and to bind them.
+// The text of a query in a reading with the parameters that were made for it, with literals of any
+// form. The only error of making and binding the parameters is out of memory.
 pub(crate) fn bind_made<F: LiteralForm>(
     alloc: Global,
     query: &[u8],

@@ -43,7 +43,7 @@ pub fn bind_wide_named_in<P: ToPairs>(
     bind_made(alloc, query, pairs.to_named(alloc), reading, &form)
 }
 
-/// [`bind_wide_named_in`] in the mode in which a backslash escapes: with `false`. For example
+/// [`bind_wide_named_in`] with `false`, in the mode in which a backslash escapes. For example,
 /// `bind_wide_named(alloc, b"SELECT a FROM t WHERE b = :Id", &(("Id", 7),))`, with the query a
 /// constant.
 pub fn bind_wide_named<P: ToPairs>(
@@ -64,7 +64,7 @@ pub fn bind_wide_named<P: ToPairs>(
 
 /// [`bind_named_anywhere`](crate::bind_named_anywhere) by wide names, as
 /// [`bind_wide_anywhere`](mysql_steady_text::bind_wide_anywhere) reads them. The caller proves the
-/// same of these names, and that the query with its names in lower case is portable. For example
+/// same of these names, and that the query with its names in lower case is portable. For example,
 /// `bind_wide_named_anywhere(alloc, b"SELECT a FROM t WHERE b = :Id", &(("Id", "x"),))`.
 pub fn bind_wide_named_anywhere<P: ToPairs>(
     alloc: Global,

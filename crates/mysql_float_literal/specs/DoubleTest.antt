@@ -4,7 +4,7 @@ use Rattle.std.specs.Prelude.{◌==◌, ◌&&◌, not, ℕ, Bool, true, false, L
 use Rattle.std.specs.Char.{is_ascii_digit}
 use Rattle.std.specs.Str.{byte}
 
--- digits alone: whether one has stood before
+-- only digits; the flag: there was one before
 abbrev pub ends_in_digits : Bool → List ℕ → Bool
 ends_in_digits digit [] = digit
 ends_in_digits digit (b ∷ bytes) = is_ascii_digit b && ends_in_digits true bytes
@@ -15,8 +15,8 @@ is_exponent [] = false
 is_exponent (b ∷ bytes) =
     if b == byte "-" then ends_in_digits false bytes else ends_in_digits false (b ∷ bytes)
 
--- digits with at most one point between them, and an exponent: whether the part has a digit yet,
--- and whether the point was passed
+-- digits with at most one point between them, and an exponent; the flags: this part has a digit
+-- already, and the point was passed
 abbrev pub is_double_from : Bool → Bool → List ℕ → Bool
 is_double_from digit point_passed [] = false
 is_double_from digit point_passed (b ∷ bytes) =
@@ -24,7 +24,7 @@ is_double_from digit point_passed (b ∷ bytes) =
     else if b == byte "." then (digit && not point_passed) && is_double_from false true bytes
     else (b == byte "e" && digit) && is_exponent bytes
 
--- a double: before the digits at most one minus
+-- a double: at most one minus before the digits
 abbrev pub is_double : List ℕ → Bool
 is_double [] = false
 is_double (b ∷ bytes) =

@@ -1,12 +1,12 @@
-//! A double as the number that is written of it.
+//! A double and the number that is written for it.
 ghost use Rattle.std.specs.Prelude.{◌≤◌, take, IsTrue};
 ghost use Rattle.mysql_float_literal.specs.DoubleTest.{is_double};
 ghost use Rattle.mysql_float_literal.specs.ReadDouble.{reads_finite};
 
 use crate::literal::{finite_float_of, finite_of, put_finite};
 
-/// A finite double with the number that is written of it: digits and an exponent, as `1.5e0`, by
-/// which servers read it as a double. It allocates nothing.
+/// A finite double with the number that is written for it: digits and an exponent, such as `1.5e0`.
+/// Servers read a number with an exponent as a double. It allocates nothing.
 #[derive(Clone, Copy)]
 pub struct Double {
     room: [u8; 27],
@@ -24,7 +24,7 @@ impl Double {
     ghost use Rattle.mysql_float_literal.specs.DoubleText.{double_text, double_value};
 
     /// The number of a double; `None` for a NaN and an infinity, which have none. The sign of -0 is
-    /// kept. An `f32` is given as `f64::from(x)`, which has the same value.
+    /// kept. Give an `f32` as `f64::from(x)`, which has the same value.
     pub fn new(double: f64) -> Option<Double>
         ensures none { IsNone result ↔ IsFalse (float_is_finite double) }
         ensures same { IfSome result (λ made. double_value made ≡ double) }

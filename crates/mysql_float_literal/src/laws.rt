@@ -13,8 +13,8 @@ pub fn is_double_is_shape()
     ensures { (text : List ℕ) → IsTrue (is_double text) ↔ IsDouble text }
 {}
 
-/// A number with an exponent that reads as a float alone reads as it before every text that doesn't
-/// begin with a digit, and ends there.
+/// If a number with an exponent reads as a float on its own, it reads as this float before every
+/// text that doesn't begin with a digit, and ends where that text begins.
 pub fn doubles_read_before_others()
     ensures { (text : List ℕ) (x : Float) → IsDouble text → parse_float binary64 text ≡ Some x
         → ReadsAs text x }

@@ -1,7 +1,7 @@
 //! Doubles as numbers in SQL text that read back as the same double.
 //!
-//! [`Double`] is a finite double with its number. What such a number looks like and how it is read
-//! stands in `specs/`.
+//! [`Double`] is a finite double with its number. `specs/` defines the shape of such a number and
+//! how it is read.
 #![tactic(auto)]
 
 mod double;

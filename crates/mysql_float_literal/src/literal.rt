@@ -59,14 +59,14 @@ pub(crate) fn put_finite(double: f64, out: &mut [u8; 32]) -> usize
     put_zero_exponent(out, len)
 }
 
-// Whether an `e` stands in the text.
+// Whether the text has an `e`.
 fn has_exponent(text: &[u8]) -> bool
     ensures { result ≡ list_any (λ b. b == byte "e") text.now }
 {
     text.iter().any(|b| *b == b'e')
 }
 
-// Writes the exponent 0 from here on, and returns where it ends.
+// Writes the exponent 0 from index `len` on, and returns the index after it.
 fn put_zero_exponent(out: &mut [u8; 32], len: usize) -> usize
     requires { len ≤ 30 }
     ensures end { result ≡ len + 2 }

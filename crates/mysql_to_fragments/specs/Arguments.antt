@@ -1,5 +1,5 @@
--- What arguments say as items, as rows and as fragments, or the duration that is too long for a
--- value. A type of a caller's own names what it says.
+-- The contents of arguments as items, as rows and as fragments, or the duration that is too long
+-- for a value. A type of the caller's own names its content.
 use Rattle.std.specs.Prelude.{ℕ, List, [], ◌∷◌, ◌++◌, Result, Ok, Err, fold, if◌then◌else◌, to_bits}
 use Rattle.std.specs.Float.{binary64, float_is_finite}
 use Rattle.std.specs.Float.Ieee.{Float}
@@ -23,23 +23,23 @@ SaidAssignment = Result AssignmentContent Duration
 abbrev pub SaidFragment : Type 0
 SaidFragment = Result FragmentContent Duration
 
--- what is made of what is said; a refusal stays
+-- the content with `make` applied to it; a refusal stays
 abbrev pub made_of : {X Y : Type 0} → (X → Y) → Result X Duration → Result Y Duration
 made_of make (Ok said) = Ok (make said)
 made_of make (Err duration) = Err duration
 
--- the assignment of what is said to the column of these names
+-- the assignment of an item to the column of these names; a refusal stays
 abbrev pub said_of_column : List (List ℕ) → SaidItem → SaidAssignment
 said_of_column names said = made_of (λ item. (names, item)) said
 
--- what is said so far, and one more; a refusal stays
+-- the contents so far, and one more; a refusal stays
 abbrev pub with_one : {X : Type 0} → Result (List X) Duration → Result X Duration
     → Result (List X) Duration
 with_one (Ok so_far) (Ok one) = Ok (so_far ++ one ∷ [])
 with_one (Ok so_far) (Err duration) = Err duration
 with_one (Err duration) one = Err duration
 
--- all that is said, in order, or the first duration that is too long
+-- all contents, in order, or the first duration that is too long
 abbrev pub all_said : {X : Type 0} → List (Result X Duration) → Result (List X) Duration
 all_said each = fold with_one (Ok []) each
 
@@ -48,7 +48,7 @@ abbrev pub said_double : Float → ItemContent
 said_double x =
     if float_is_finite x then double_item x else value_item (Double (to_bits binary64 x))
 
--- an item that stands alone
+-- an item as a fragment of its own
 abbrev pub alone : ItemContent → FragmentContent
 alone (value_item said) = value said
 alone (number_item text) = number text

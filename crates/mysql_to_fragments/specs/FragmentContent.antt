@@ -1,4 +1,4 @@
--- What a fragment says, without where its bytes and items stand in memory.
+-- The content of a fragment, without the place of its bytes and items in memory.
 use Rattle.std.specs.Prelude.{ℕ, List, map}
 use Rattle.std.specs.Global.{Vec}
 use Rattle.mysql_value_core.specs.declared.value.Value.{Value}
@@ -11,7 +11,7 @@ use Rattle.mysql_fragments.specs.declared.fragment.Item.TheVariants as item
 use Rattle.mysql_fragments.specs.declared.fragment.Fragment.{Fragment}
 use Rattle.mysql_fragments.specs.declared.fragment.Fragment.TheVariants as one
 
--- what an item of a list or a row says
+-- the content of an item of a list or a row
 pub data ItemContent : Type 0 where
   -- a value
   value_item : Value → ItemContent
@@ -20,11 +20,11 @@ pub data ItemContent : Type 0 where
   -- a finite double
   double_item : Float → ItemContent
 
--- what an assignment says: the names of its column, and its item
+-- the content of an assignment: the names of its column, and its item
 abbrev pub AssignmentContent : Type 0
 AssignmentContent = List (List ℕ) × ItemContent
 
--- what a fragment says
+-- the content of a fragment
 pub data FragmentContent : Type 0 where
   -- a value
   value : Value → FragmentContent
@@ -47,13 +47,13 @@ pub data FragmentContent : Type 0 where
   -- assignments
   assignments : List AssignmentContent → FragmentContent
 
--- what this item says
+-- the content of this item
 abbrev pub item_content : Item → ItemContent
 item_content (item.Value said) = value_item said
 item_content (item.Decimal text) = number_item text.items
 item_content (item.Double said) = double_item (double_value said)
 
--- what these items say
+-- the contents of these items
 abbrev pub items_content : List Item → List ItemContent
 items_content items = map item_content items
 
@@ -61,16 +61,16 @@ items_content items = map item_content items
 abbrev pub columns_content : List (Vec (Vec ℕ)) → List (List (List ℕ))
 columns_content columns = map (λ names. names_of names.items) columns
 
--- what this assignment says
+-- the content of this assignment
 abbrev pub assignment_content : ColumnAssignment → AssignmentContent
 assignment_content assignment =
     (names_of assignment.column.items, item_content assignment.item)
 
--- what these assignments say
+-- the contents of these assignments
 abbrev pub assignments_content : List ColumnAssignment → List AssignmentContent
 assignments_content said = map assignment_content said
 
--- what this fragment says
+-- the content of this fragment
 abbrev pub content_of : Fragment → FragmentContent
 content_of (one.Value said) = value said
 content_of (one.Decimal text) = number text.items

@@ -1,4 +1,5 @@
--- What fragments say, by name or by position, and what pairs of a name and an argument make.
+-- The contents of fragments, by name or by position, and of the fragments that pairs of a name and
+-- an argument make.
 use Rattle.std.specs.Prelude.{ℕ, List, map, Result, Ok, Err, fold, if◌then◌else◌}
 use Rattle.std.specs.FinMap as finite
 use Rattle.std.specs.FinMap.{FinMap, from_entries}
@@ -12,11 +13,11 @@ use Rattle.mysql_fragments.specs.declared.fragment.Fragments.TheVariants.{Named,
 use Rattle.mysql_to_fragments.specs.FragmentContent.{FragmentContent, content_of}
 use Rattle.mysql_to_fragments.specs.Arguments.{SaidFragment}
 
--- a finite map from names, which are bytes, to what fragments say
+-- a finite map from names, which are bytes, to the contents of fragments
 abbrev pub ContentMap : Type 0
 ContentMap = FinMap (slice_cmp nat_cmp) FragmentContent
 
--- an entry, with its name as bytes and what its fragment says
+-- an entry, with its name as bytes and the content of its fragment
 abbrev pub entry_content : Vec ℕ × Fragment → List ℕ × FragmentContent
 entry_content entry = (entry.0.items, content_of entry.1)
 
@@ -24,14 +25,14 @@ entry_content entry = (entry.0.items, content_of entry.1)
 abbrev pub content_map : List (Vec ℕ × Fragment) → ContentMap
 content_map entries = from_entries (map entry_content entries)
 
--- what the fragments for the places of a query say
+-- the contents of the fragments for the places of a query
 pub data GivenContents : Type 0 where
   -- fragments by name
   by_name : ContentMap → GivenContents
   -- fragments by position
   by_position : List FragmentContent → GivenContents
 
--- what these fragments say
+-- the contents of these fragments
 abbrev pub contents_of : Fragments → GivenContents
 contents_of (Named entries) = by_name (content_map entries.entries)
 contents_of (Positional fragments) = by_position (map content_of fragments.items)
@@ -55,6 +56,6 @@ abbrev pub named_contents : Result ContentMap ToParamsRefusal
 named_contents (Ok entries) = Ok (by_name entries)
 named_contents (Err refusal) = Err refusal
 
--- what pairs of a name and an argument make, taken in order
+-- the contents that pairs of a name and an argument make, taken in order
 abbrev pub pairs_made : List (List ℕ × SaidFragment) → Result GivenContents ToParamsRefusal
 pairs_made pairs = named_contents (fold with_pair (Ok finite.empty) pairs)

@@ -1,4 +1,4 @@
-//! Columns and what they are set to.
+//! Columns and the items that they are set to.
 ghost use Rattle.std.specs.Prelude.{Ok, map, ⊤};
 ghost use Rattle.mysql_values.specs.Answer.{IsAnswer};
 ghost use Rattle.mysql_values.specs.ValueOf.{too_long_duration};
@@ -12,9 +12,9 @@ use mysql_fragments::{ColumnAssignment, Fragment};
 use mysql_values::value::convert::ToValueError;
 use std::alloc::{AllocError, Global};
 
-/// Columns and what they are set to, as for `SET :changes`: each the names of a column, as those of
-/// a [`Qualified`](crate::Qualified), and an item. Items of several types are
-/// [`Value`](mysql_values::value::Value)s, or of a type of a caller's own.
+/// Columns and the items that they are set to, for a place like `SET :changes`. Each element has
+/// the names of a column, like those of a [`Qualified`](crate::Qualified), and an item. Items of
+/// several types are [`Value`](mysql_values::value::Value)s, or of a type of the caller's own.
 #[derive(Drop)]
 pub struct AssignmentsOf<'a, T>(pub &'a [(&'a [&'a [u8]], T)]);
 
@@ -45,7 +45,7 @@ fn all_assignments<T: ToItem>(
     Ok(made)
 }
 
-// Appends the assignment of what an argument makes to the column of these names.
+// Appends the assignment of an argument's item to the column of these names.
 fn push_assignment<T: ToItem>(
     alloc: Global,
     made: &mut Vec<ColumnAssignment>,

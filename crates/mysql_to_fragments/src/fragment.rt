@@ -1,4 +1,4 @@
-//! What makes a fragment.
+//! Arguments that make a fragment.
 ghost use Rattle.std.specs.Prelude.{◌≡◌, Ok, IfOk, map, ⊤};
 ghost use Rattle.mysql_values.specs.Answer.{IsAnswer};
 ghost use Rattle.mysql_values.specs.ValueOf.{too_long_duration};
@@ -12,15 +12,16 @@ use mysql_fragments::{Fragment, Item, Keyword};
 use mysql_values::value::convert::ToValueError;
 use std::alloc::{AllocError, Global};
 
-/// What makes a fragment: what makes an item, as a value does; [`ListOf`](crate::ListOf),
-/// [`RowsOf`](crate::RowsOf) and [`AssignmentsOf`](crate::AssignmentsOf); [`Identifier`],
-/// [`Qualified`], [`Identifiers`] and [`Word`]; a type of a caller's own.
+/// An argument that makes a fragment: one that makes an item, such as a value;
+/// [`ListOf`](crate::ListOf), [`RowsOf`](crate::RowsOf) and
+/// [`AssignmentsOf`](crate::AssignmentsOf); [`Identifier`], [`Qualified`], [`Identifiers`] and
+/// [`Word`]; or a type of the caller's own.
 pub trait ToFragment {
-    // what the fragment says, or the first duration in it that is too long for a value
+    // the content of the fragment, or the first duration in it that is too long for a value
     ghost said: { Self → SaidFragment };
 
-    /// The fragment. `DurationTooLong` is returned only if the type's `said` says so. `Memory` may
-    /// come in place of any other result.
+    /// The fragment. `DurationTooLong` is returned only if the type's `said` is such a duration.
+    /// `Memory` may come in place of any other result.
     fn to_fragment(&self, alloc: Global) -> Result<Fragment, ToValueError>
         ensures { IsAnswer content_of too_long_duration (said self.now) ⊤ result };
 }
@@ -49,7 +50,7 @@ impl<'a> ToFragment for Identifier<'a> {
     }
 }
 
-/// Names with `.` between them, each as an [`Identifier`]: a database and a table in it.
+/// Names with `.` between them, each like an [`Identifier`]: a database and a table in it.
 #[derive(Clone, Copy)]
 pub struct Qualified<'a>(pub &'a [&'a [u8]]);
 
@@ -61,7 +62,8 @@ impl<'a> ToFragment for Qualified<'a> {
     }
 }
 
-/// Columns with `, ` between them, each as a [`Qualified`]: for `INSERT INTO t (:columns)`.
+/// Columns with `, ` between them, each like a [`Qualified`], for a place like
+/// `INSERT INTO t (:columns)`.
 #[derive(Clone, Copy)]
 pub struct Identifiers<'a>(pub &'a [&'a [&'a [u8]]]);
 
@@ -96,7 +98,7 @@ pub(crate) fn copies(alloc: Global, names: &[&[u8]]) -> Result<Vec<Vec<u8>>, All
     Ok(copies)
 }
 
-/// A keyword that stands in the program, as `DESC`: the text of a
+/// A keyword of the program's own, such as `DESC`: the text of a
 /// [`Keyword`](mysql_fragments::Keyword).
 #[derive(Clone, Copy)]
 pub struct Word(pub &'static [u8]);

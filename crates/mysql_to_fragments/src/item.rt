@@ -11,13 +11,14 @@ use mysql_values::value::Value;
 use mysql_values::value::convert::{ToValue, ToValueError};
 use std::alloc::Global;
 
-/// What makes an item of a list or a row: what has a value, a [`Decimal`] or a [`DoubleOf`].
+/// An argument that makes an item of a list or a row: one that has a value, a [`Decimal`] or a
+/// [`DoubleOf`].
 pub trait ToItem {
-    // what the item says, or the duration that is too long for its value
+    // the content of the item, or the duration that is too long for its value
     ghost said_item: { Self → SaidItem };
 
-    /// The item. `DurationTooLong` is returned only if the type's `said_item` says so. `Memory` may
-    /// come in place of any other result.
+    /// The item. `DurationTooLong` is returned only if the type's `said_item` is such a duration.
+    /// `Memory` may come in place of any other result.
     fn to_item(&self, alloc: Global) -> Result<Item, ToValueError>
         ensures { IsAnswer item_content too_long_duration (said_item self.now) ⊤ result };
 }
@@ -31,9 +32,8 @@ impl<T: ToValue> ToItem for T {
     }
 }
 
-/// An exact number as it is written, as `-1.50`: the text of
-/// [`Item::Decimal`](mysql_fragments::Item::Decimal), which is refused where it is bound if it is
-/// no such number.
+/// An exact number, such as `-1.50`: the text of [`Item::Decimal`](mysql_fragments::Item::Decimal),
+/// which is written as it is. A text that isn't such a number is refused when it is bound.
 #[derive(Clone, Copy)]
 pub struct Decimal<'a>(pub &'a [u8]);
 
@@ -45,9 +45,9 @@ impl<'a> ToItem for Decimal<'a> {
     }
 }
 
-/// The double of an `f64` or an `f32`, as a number with an exponent:
-/// [`Item::Double`](mysql_fragments::Item::Double). A float is widened to the double of the same
-/// value. A NaN and an infinity have no number: they are values, which are refused as `Float` where
+/// The double of an `f64` or an `f32`, written as a number with an exponent:
+/// [`Item::Double`](mysql_fragments::Item::Double). An `f32` is widened to the double of the same
+/// value. A NaN and an infinity have no number: they are values, which are refused as `Float` when
 /// they are bound.
 #[derive(Clone, Copy)]
 pub struct DoubleOf<T>(pub T);

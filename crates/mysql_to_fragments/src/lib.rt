@@ -1,7 +1,7 @@
-//! Arguments of queries with fragments: what makes items, rows, fragments, and fragments by name.
+//! Arguments of queries with fragments: they make items, rows, fragments, and fragments by name.
 //!
 //! [`ToFragments`] makes the fragments of a query from pairs of a name and an argument. An argument
-//! is what has a value, or a wrapper of this crate, or a type of a caller's own.
+//! is of a type that has a value, a wrapper of this crate, or of a type of the caller's own.
 #![tactic(auto)]
 
 mod assignments;

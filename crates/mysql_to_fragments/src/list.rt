@@ -11,7 +11,7 @@ use mysql_fragments::{Fragment, Item};
 use mysql_values::value::convert::ToValueError;
 use std::alloc::{AllocError, Global};
 
-/// A list of items, as for `IN (:ids)`.
+/// A list of items, for a place like `IN (:ids)`.
 #[derive(Drop)]
 pub struct ListOf<'a, T>(pub &'a [T]);
 

@@ -18,16 +18,17 @@ use mysql_values::value::convert::ToValueError;
 use std::alloc::Global;
 use std::collections::HashMap;
 
-/// Pairs of a name and an argument, as tuples of up to eight of them:
+/// Pairs of a name and an argument, up to eight in a tuple:
 /// `(("ids", ListOf(ids)), ("column", Identifier(column)))`.
 pub trait ToFragments {
-    // the names, and what the arguments say
+    // the names, and the contents of the arguments
     ghost pairs: { Self → List (List ℕ × SaidFragment) };
 
-    /// The fragments that the pairs make by name, taken in order. A pair with the name of an
-    /// earlier pair is refused as `Redefined` with that name, and its argument isn't asked for its
-    /// fragment. An argument with a duration that is too long for a value is refused as `Value`.
-    /// The first refusal ends it. `Memory` may come in place of any other result.
+    /// The fragments that the pairs make by name. The pairs are taken in order, and the first
+    /// refusal ends the call. A pair with the name of an earlier pair is refused as `Redefined`
+    /// with that name, and its argument isn't asked for its fragment. An argument with a duration
+    /// that is too long for a value is refused as `Value`. `Memory` may come in place of any other
+    /// result.
     fn to_fragments(&self, alloc: Global) -> Result<Fragments, ToParamsError>
         ensures made { IsAnswer contents_of to_params_refusal
             (pairs_made (pairs self.now)) ⊤ result }
@@ -208,7 +209,7 @@ fn fragments_of_pairs<R: InsertPairs>(alloc: Global, row: &R) -> Result<Fragment
 
 // References to pairs as nested pairs, whose fragments go into a map.
 trait InsertPairs {
-    // the names, and what the arguments say
+    // the names, and the contents of the arguments
     ghost inserted: { Self → List (List ℕ × SaidFragment) };
 
     // Inserts the fragments in order, up to the first refusal.
@@ -286,8 +287,8 @@ fn redefined_error(alloc: Global, name: &[u8]) -> ToParamsError
     }
 }
 
-// Inserts under a new name what an argument returned as its fragment. A caller says which fragment
-// the argument makes.
+// Inserts under a new name the fragment that an argument returned. A caller says which fragment the
+// argument makes.
 fn insert_new(
     alloc: Global,
     entries: &mut HashMap<Vec<u8>, Fragment>,

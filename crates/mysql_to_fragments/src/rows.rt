@@ -10,19 +10,20 @@ use mysql_fragments::{Fragment, Item};
 use mysql_values::value::convert::ToValueError;
 use std::alloc::{AllocError, Global};
 
-/// What makes a row of items: a tuple of up to eight arguments, or a type of a caller's own.
+/// An argument that makes a row of items: a tuple of up to eight arguments, or a type of the
+/// caller's own.
 pub trait ToRow {
-    // what the items say, or the first duration that is too long for a value
+    // the contents of the items, or the first duration that is too long for a value
     ghost said_row: { Self → SaidRow };
 
-    /// The items. `DurationTooLong` is returned only if the type's `said_row` says so. `Memory` may
-    /// come in place of any other result.
+    /// The items. `DurationTooLong` is returned only if the type's `said_row` is such a duration.
+    /// `Memory` may come in place of any other result.
     fn to_row(&self, alloc: Global) -> Result<Vec<Item>, ToValueError>
         ensures { IsAnswer (λ items. items_content items.items) too_long_duration
             (said_row self.now) ⊤ result };
 }
 
-/// Rows of items, as for `VALUES :rows`.
+/// Rows of items, for a place like `VALUES :rows`.
 #[derive(Drop)]
 pub struct RowsOf<'a, R>(pub &'a [R]);
 

@@ -113,7 +113,7 @@ fn items_of_row<R: PushItems>(alloc: Global, row: &R) -> Result<Vec<Item>, ToVal
 
 // References to arguments as nested pairs, whose items go to the end of a row.
 trait PushItems {
-    // what the items say
+    // the contents of the items
     ghost pushed: { Self → List SaidItem };
 
     // Appends the items in order, up to the first refusal.
