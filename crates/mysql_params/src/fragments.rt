@@ -1,6 +1,6 @@
 //! Queries with fragments in their places: lists, rows, exact numbers, doubles, identifiers,
-//! columns, assignments and keywords, and what makes these of arguments. What a user needs of
-//! `mysql_fragments`, `mysql_to_fragments` and `mysql_float_literal`, handed on by name.
+//! columns, assignments and keywords, and the arguments that make these. It is the public part of
+//! `mysql_fragments`, `mysql_to_fragments` and `mysql_float_literal`, re-exported by name.
 
 pub use mysql_float_literal::Double;
 pub use mysql_fragments::{

@@ -1,22 +1,29 @@
-//! Named and positional parameters of MySQL queries: the front door, which hands all on by name.
+//! Named and positional parameters of MySQL queries: the crate for users, which re-exports the
+//! others by name.
 //!
 //! A query is bytes. [`named_params`] finds the names and marks outside its strings, quoted
-//! identifiers and comments; [`params`] are what is given to them, and [`bind_text`] puts the
-//! literals of the values in their places; [`bind_text_in`] does so in either mode of backslashes,
-//! and a [`ParsedQuery`] is parsed once and bound many times; [`bind_text_anywhere`] gives text
-//! that no mode and no character set reads otherwise, and [`bind_text_in_both_modes`] one that no
-//! mode does, to a query that may hold bytes from 128 on. [`bind_pairs`] and [`bind_values`] take
-//! names and values that are borrowed, and two such stand beside each of these calls.
-//! [`bind_wide`] and the calls with `wide` in their names take names with capitals.
-//! [`first_unportable`] finds what servers read in different ways or with which a value would join
-//! a number, before a query is bound; [`first_unportable_in_client`] also what the client `mysql`
-//! or `mariadb` reads or sends otherwise; [`first_unsteady`] the first byte that a mode or a
-//! character set may read otherwise. If the query is a constant, [`fixed_query`] binds it,
-//! refused for nothing but memory. [`run`] is the program, with its commands `names` and `bind`,
-//! for any reader and writer, and [`words_of`] has its words.
+//! identifiers and comments. [`params`] has the parameters, and [`bind_text`] puts the literals of
+//! their values in the places of names and marks. [`bind_text_in`] does so in either mode of
+//! backslashes. A [`ParsedQuery`] is parsed once and bound many times.
 //!
-//! [`fragments`] bind also lists, rows, exact numbers, doubles, identifiers, columns, assignments
-//! and keywords, and make these of arguments.
+//! No mode and no character set changes how the text of [`bind_text_anywhere`] is read.
+//! [`bind_text_in_both_modes`] takes a query that may hold bytes from 128 on, and no mode changes
+//! how its text is read. [`bind_pairs`] and [`bind_values`] take borrowed names and values, and
+//! each of these calls has two such calls beside it. [`bind_wide`] and the calls with `wide` in
+//! their names take names with capitals.
+//!
+//! Before a query is bound, [`first_unportable`] finds the first construct that servers read in
+//! different ways, or in which a value would join a number. [`first_unportable_in_client`] also
+//! finds constructs that the client `mysql` or `mariadb` reads or sends in another way.
+//! [`first_unsteady`] finds the first byte that may be read in another way in a mode or over a
+//! character set.
+//!
+//! If the query is a constant, [`fixed_query`] binds it, and the only error is out of memory.
+//! [`run`] is the program, with its commands `names` and `bind`, for any reader and writer, and
+//! [`words_of`] gives its words.
+//!
+//! [`fragments`] also binds lists, rows, exact numbers, doubles, identifiers, columns, assignments
+//! and keywords, and makes them from arguments.
 #![tactic(auto)]
 
 pub mod fixed_query;

@@ -1,5 +1,5 @@
-//! Parameters of queries, what makes them, and the values that they give: what a user needs of
-//! `mysql_params_core::params`, handed on by name.
+//! Parameters of queries, the things that make them, and the values that they give: the public part
+//! of `mysql_params_core::params`, re-exported by name.
 
 pub use mysql_params_core::params::{
     IntoPositionalError, MissingNamedParameterError, Params, ParamsConfusionError, ParamsError,

@@ -1,4 +1,5 @@
-//! The program `mysql_query`: what `mysql_params::run` answers to the arguments and standard input.
+//! The program `mysql_query`: `mysql_params::run` on the arguments, standard input and standard
+//! output.
 #![tactic(auto)]
 
 use mysql_params::{RunError, run, words_of};
@@ -15,7 +16,7 @@ fn main(rt: HostRuntime) -> ExitCode {
     match answer(&rt) {
         Ok(()) => ExitCode::SUCCESS,
         Err(error) => {
-            // The status tells of a refusal whose message can't be printed.
+            // If the message can't be printed, the status still reports the refusal.
             let _ = eprintln!(rt; "{error}");
             ExitCode::from(error.status())
         }

@@ -1,16 +1,16 @@
--- What the program answers to its words and its input, over definitions of the query alone.
+-- The answer of the program to its words and its input, by definitions about the query only.
 --
--- Six types of refusal stand on the way from the words to the exit status. Three are the code's,
--- which can also be out of memory; three are of the definitions, which never are.
+-- There are six types of refusal between the words and the exit status. Three are the code's, which
+-- can also be out of memory. Three are those of the definitions, which never are.
 --
 --   of             in code                              in definitions
 --   the words      `WordsError` (src/words.rt)          `WordsRefusal` (Words.antt)
 --   the binding    `BindError` (of mysql_binding)       `Cause` (FirstCause.antt of mysql_binding)
 --   the program    `RunError` (src/run_error.rt)        `Refusal` (here)
 --
--- A `Refusal` holds a `WordsRefusal` or a `Cause`, or is that of a query that `names` refuses. A
+-- A `Refusal` holds a `WordsRefusal` or a `Cause`, or is the refusal of a query by `names`. A
 -- `RunError` holds a `BindError`, and has variants of its own for those of `WordsError` and for a
--- failed read or write. Which refusal an error stands for is said by `words_refusal`
+-- failed read or write. The refusal that an error reports is defined by `words_refusal`
 -- (WordErrors.antt), `cause_of` (BindErrors.antt of mysql_binding) and `refusal_of`
 -- (RunErrors.antt).
 use Rattle.std.specs.Prelude.{◌≡◌, ℕ, List, [], ◌∷◌, ◌++◌, if◌then◌else◌, Result, Ok, Err, Some, String}
@@ -26,11 +26,11 @@ use Rattle.mysql_query_core.specs.Words.{WordsRefusal, Command, names_of_query, 
 
 -- why the program refuses its words or its input
 pub data Refusal : Type 0 where
-  -- the words ask for nothing that the program does, or name a parameter twice
+  -- the words aren't a command of the program, or name a parameter twice
   bad_words : WordsRefusal → Refusal
-  -- the query has a name and a mark, and its names were asked for
+  -- the query has a name and a mark, and the command is `names`
   names_of_mixed_query : Refusal
-  -- the parameters can't be bound into the query
+  -- the parameters can't be bound to the query
   binding_cause : Cause → Refusal
 
 -- each text and a newline
@@ -38,14 +38,14 @@ abbrev pub lines_of : List (List ℕ) → List ℕ
 lines_of [] = []
 lines_of (text ∷ texts) = text ++ newline ∷ lines_of texts
 
--- what `names` writes for the tokens of a query, or its refusal
+-- the output of `names` for the tokens of a query, or its refusal
 abbrev pub names_output : List Token → Result (List ℕ) Refusal
 names_output ts =
     if has_both ts then Err names_of_mixed_query
     else Ok (lines_of (text_of (with_marks ts) ∷ names ts))
 
--- what a command writes for the tokens of a query, or its refusal: `bind` writes the bound text and
--- nothing else
+-- the output of a command for the tokens of a query, or its refusal: `bind` writes the bound text
+-- and nothing else
 abbrev pub IsOutput : Command → List Token → Result (List ℕ) Refusal → Type 0
 IsOutput names_of_query ts answer = names_output ts ≡ answer
 IsOutput (bound_query params) ts (Ok text) = IsBoundText with_backslashes ts params text

@@ -1,4 +1,4 @@
--- What each error of `run` stands for.
+-- The refusal that each error of `run` reports.
 use Rattle.std.specs.Prelude.{◌≡◌, ◌⊎◌, ℕ, List, Err, Option, None, Some, option_map, alloc_error, ⊤}
 use Rattle.mysql_io.specs.declared.readers_and_writers.ReadError.{ReadError}
 use Rattle.mysql_io.specs.declared.readers_and_writers.ReadError.TheVariants as read
@@ -12,7 +12,7 @@ use Rattle.mysql_query_core.specs.Words.{Command, usage, redefined_name}
 use Rattle.mysql_query_core.specs.declared.run_error.RunError.{RunError}
 use Rattle.mysql_query_core.specs.declared.run_error.RunError.TheVariants.{Usage, Redefined, Mixed, Bind, Read, Write, Memory}
 
--- what `Bind` holds is a cause to refuse, and so never out of memory, also not that of a lookup
+-- `Bind` holds a cause to refuse. So it is never out of memory, not even that of a lookup
 abbrev pub HoldsCause : RunError → Type 0
 HoldsCause (Bind error) = (cause : Cause) × (cause_of error ≡ Some cause)
 HoldsCause error = ⊤
@@ -28,8 +28,8 @@ status_of Read = 2
 status_of Write = 2
 status_of (Memory e) = 2
 
--- the refusal of the words or the input that the error stands for; none for a failed read or write
--- and out of memory
+-- the refusal of the words or the input that the error reports; none for a failed read or write and
+-- out of memory
 abbrev pub refusal_of : RunError → Option Refusal
 refusal_of Usage = Some (bad_words usage)
 refusal_of (Redefined name) = Some (bad_words (redefined_name name.items))

@@ -1,4 +1,4 @@
--- What the code's commands and errors of words stand for.
+-- The commands and refusals of the definitions for the code's commands and errors of words.
 use Rattle.std.specs.Prelude.{ℕ, List, Option, None, Some}
 use Rattle.std.specs.Borrow.{Bor}
 use Rattle.mysql_values.specs.declared.value.Value.{Value}
@@ -12,7 +12,7 @@ use Rattle.mysql_query_core.specs.declared.words.Command.TheVariants.{Names, Bin
 use Rattle.mysql_query_core.specs.declared.words.WordsError.{WordsError}
 use Rattle.mysql_query_core.specs.declared.words.WordsError.TheVariants.{Usage, Redefined, Memory}
 
--- the refusal of the words that the error stands for; none for out of memory
+-- the refusal of the words that the error reports; none for out of memory
 abbrev pub words_refusal : WordsError → Option WordsRefusal
 words_refusal Usage = Some usage
 words_refusal (Redefined name) = Some (redefined_name name.items)
@@ -24,7 +24,7 @@ words_error_of_params (to_params.Redefined name) = Redefined name
 words_error_of_params (to_params.Value error) = Usage
 words_error_of_params (to_params.Memory error) = Memory error
 
--- the command that the code's command stands for
+-- the command of the definitions for the code's command
 abbrev pub seen_command : Command → words.Command
 seen_command Names = words.names_of_query
 seen_command (Bind params) = words.bound_query (given params)

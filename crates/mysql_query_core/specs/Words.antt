@@ -1,4 +1,4 @@
--- What the words of the program ask for.
+-- The command that the words of the program give.
 use Rattle.std.specs.Prelude.{◌==◌, ℕ, Bool, true, false, List, [], ◌∷◌, length, map, codes, if◌then◌else◌, Option, None, Some, option_map, option_and_then, Result, Ok, Err, String, string_bytes, unsigned_abs, IsTrue}
 use Rattle.std.specs.Global.{Global}
 use Rattle.std.specs.List.{after_first, before_first, list_all, list_any}
@@ -12,12 +12,12 @@ use Rattle.mysql_params_core.specs.Made.{ToParamsRefusal, redefined, too_long, p
 
 -- why words are refused
 pub data WordsRefusal : Type 0 where
-  -- they ask for nothing that the program does
+  -- they aren't a command of the program
   usage : WordsRefusal
-  -- this name stands twice
+  -- this name is given twice
   redefined_name : List ℕ → WordsRefusal
 
--- what words ask for
+-- a command
 pub data Command : Type 0 where
   -- the names of a query
   names_of_query : Command
@@ -32,7 +32,7 @@ word_bytes words = map string_bytes words
 abbrev pub is_equals_sign : ℕ → Bool
 is_equals_sign b = b == byte "="
 
--- what stands before the first `=` of a word, and after it; none if the word has no `=`
+-- the parts of a word before and after its first `=`; none if the word has no `=`
 abbrev pub parts_of_word : List ℕ → Option (List ℕ × List ℕ)
 parts_of_word word =
     if list_any is_equals_sign word
@@ -88,17 +88,17 @@ abbrev pub words_refusal_of : ToParamsRefusal → WordsRefusal
 words_refusal_of (redefined name) = redefined_name name
 words_refusal_of (too_long duration) = usage
 
--- what pairs with names give, taken in order
+-- the parameters that pairs with names give, taken in order
 abbrev pub given_by_name : List (List ℕ × Value) → Result Given ToParamsRefusal
 given_by_name pairs = pairs_made (map (λ pair. (pair.0, Ok pair.1)) pairs)
 
--- what a maker of parameters returns, as a command or a refusal of the words
+-- the result of a maker of parameters, as a command or a refusal of the words
 abbrev pub command_made : Result Given ToParamsRefusal → Result Command WordsRefusal
 command_made (Ok params) = Ok (bound_query params)
 command_made (Err refusal) = Err (words_refusal_of refusal)
 
--- What pairs ask for. If all names are empty, the values by position; if no name is empty, the
--- values by name; otherwise nothing that the program does.
+-- The command of pairs. If all names are empty, it binds the values by position. If no name is
+-- empty, it binds the values by name. Otherwise it is refused as usage.
 abbrev pub command_of_pairs : List (List ℕ × Value) → Result Command WordsRefusal
 command_of_pairs [] = Ok (bound_query empty)
 command_of_pairs (pair ∷ pairs) =
@@ -107,7 +107,7 @@ command_of_pairs (pair ∷ pairs) =
     else if list_any is_nameless (pair ∷ pairs) then Err usage
     else command_made (given_by_name (pair ∷ pairs))
 
--- what pairs ask for; usage if there are none because a word isn't one
+-- the command of pairs; usage if there are none because a word isn't a pair
 abbrev pub bind_command : Option (List (List ℕ × Value)) → Result Command WordsRefusal
 bind_command None = Err usage
 bind_command (Some pairs) = command_of_pairs pairs

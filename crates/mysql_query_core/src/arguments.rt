@@ -6,9 +6,9 @@ use std::alloc::Global;
 use std::env;
 use std::env::{Env, FillError};
 
-// What has the same variables, and the same arguments without the first, which is the program's
-// name. `env::args` refuses all arguments if one isn't UTF-8, and the name says where the program
-// stands.
+// An environment with the same variables, and the same arguments without the first, which is the
+// program's name. `env::args` refuses all arguments if one isn't UTF-8, and the name has the
+// program's path.
 #[derive(Drop)]
 struct WithoutName<'a, E> {
     env: &'a E,
@@ -31,8 +31,8 @@ impl<E: Env> Env for WithoutName<'_, E> {
     }
 }
 
-/// The words of the program: its arguments without its own name, which is not looked at. `Usage` if
-/// they can't be had: if one isn't UTF-8, or if the memory for them is refused.
+/// The words of the program: its arguments without its own name, which is not read. The error is
+/// `Usage`: a word isn't UTF-8, or memory for the words is refused.
 pub fn words_of<E: Env>(alloc: Global, env: &E) -> Result<Vec<String>, RunError>
     ensures usage { IfErr result (λ error. error ≡ RunError.Usage) }
 {

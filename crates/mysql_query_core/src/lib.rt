@@ -1,7 +1,7 @@
 //! The program, with its commands `names` and `bind`, over any reader and writer.
 //!
-//! [`words_of`] has the words, and [`run`] judges them, reads the whole input, and writes the whole
-//! output or refuses.
+//! [`words_of`] gives the words of the command line. [`run`] checks them and reads the whole input.
+//! Then it writes the whole output or refuses.
 #![tactic(auto)]
 
 mod arguments;

@@ -1,4 +1,4 @@
-//! The program over any reader and writer: it judges the words, reads, and writes or refuses.
+//! The program over any reader and writer: it checks the words, reads, and writes or refuses.
 ghost use Rattle.std.specs.Prelude.{◌≡◌, ◌≢◌, ◌⊎◌, ◌++◌, ◌∷◌, [], ℕ, List, map, None, Some, Ok, Err, IsErrOf, IsErrAnd, IfOk, IfErr, OnErr, OnOk, IsOk, alloc_error, option_map};
 ghost use Rattle.std.specs.Io.KnownBytes.{Appends};
 ghost use Rattle.std.specs.Cow.{cow_slice_items};
@@ -28,12 +28,12 @@ use std::io::{Read, Write};
 /// `names` writes the query with `?` in place of each name, a newline, and each name and a newline.
 /// `bind` and words `NAME=VALUE` write the query with the values bound, as
 /// [`bind_text`](mysql_binding::bind_text) binds them, and nothing else. A value is `null`, `i:` or
-/// `u:` and a decimal number of 64 bits, or `s:` and a text. Without such words no parameters are
-/// given to the query. If all names are empty, the values are bound by position; if no name is
-/// empty, they are bound by name; otherwise the words are refused as `Usage`.
+/// `u:` and a decimal number of 64 bits, or `s:` and a text. Without such words the query gets no
+/// parameters. If all names are empty, the values are bound by position. If no name is empty, they
+/// are bound by name. Otherwise the words are refused as `Usage`.
 ///
-/// The words are judged first, then the input is read to its end, and the output is written only
-/// once all of it is made. No failed read or write is repeated.
+/// The words are checked first. Then the input is read to its end. The output is written only once
+/// all of it is made. No failed read or write is repeated.
 pub fn run<R: Read, W: Write>(
     alloc: Global,
     words: &[String],
@@ -55,7 +55,7 @@ pub fn run<R: Read, W: Write>(
     ensures usage { command_of (word_bytes words.now) ≡ Err usage
         → (AsksToBind (word_bytes words.now) → ⊥) → IsErrOf result RunError.Usage }
 
-    // If the words are taken, a refusal of the query is the answer to the whole input.
+    // If the words are accepted, a refusal of the query is the answer to the whole input.
     ensures refused { (why : Refusal) → IsErrAnd result (λ e. refusal_of e ≡ Some why)
         → IsOk (command_of (word_bytes words.now)) → (bytes : List ℕ)
         × ReadsWhole (R.remaining input.old) (R.remaining input.new) bytes
@@ -67,10 +67,10 @@ pub fn run<R: Read, W: Write>(
         × Answers words.now bytes (Ok text)
         × AppendsPrefix (W.contents output.old) (W.contents output.new) text }
 
-    // Every other refusal leaves the writer alone.
+    // Every other refusal leaves the writer unchanged.
     ensures unwritten { IfErr result (λ e. e ≢ RunError.Write → output.new ≡ output.old) }
 
-    // Out of memory is an error of its own, also if binding ran out of it.
+    // Out of memory is an error of its own, also if binding ran out of memory.
     ensures cause { IfErr result HoldsCause }
 {
     let command = judge(alloc, words)?;
@@ -90,7 +90,7 @@ fn write_answer<W: Write>(output: &mut W, text: &[u8]) -> Result<(), RunError>
     Ok(())
 }
 
-// What a command writes for a query.
+// The output of a command for a query.
 fn command_output(alloc: Global, command: Command, query: &[u8]) -> Result<Vec<u8>, RunError>
     ensures ok { IfOk result (λ text. OnTokens with_backslashes query.now (λ ts.
         IsOutput (seen_command command) ts (Ok text.items))) }
@@ -103,7 +103,7 @@ fn command_output(alloc: Global, command: Command, query: &[u8]) -> Result<Vec<u
     }
 }
 
-// What `names` writes for a query.
+// The output of `names` for a query.
 fn names_output(alloc: Global, query: &[u8]) -> Result<Vec<u8>, RunError>
     ensures ok { IfOk result (λ text. OnTokens with_backslashes query.now (λ ts.
         IsOutput names_of_query ts (Ok text.items))) }
@@ -146,7 +146,7 @@ fn append_line(text: &mut Vec<u8>, line: &[u8]) -> Result<(), AllocError>
     Ok(())
 }
 
-// What `bind` writes for a query.
+// The output of `bind` for a query.
 fn bound_output(alloc: Global, query: &[u8], params: Params) -> Result<Vec<u8>, RunError>
     ensures ok { IfOk result (λ text. OnTokens with_backslashes query.now (λ ts.
         IsOutput (bound_query (given params)) ts (Ok text.items))) }

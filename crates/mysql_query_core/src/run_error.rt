@@ -9,21 +9,20 @@ use mysql_values::show::Shown;
 use std::alloc::AllocError;
 use thiserror::Error;
 
-/// Why [`run`](crate::run) did not do what its words ask for. The message is one line.
+/// Why [`run`](crate::run) refused or failed. The message is one line.
 #[derive(Debug, PartialEq, Drop, Error)]
 pub enum RunError {
-    /// The words ask for nothing that the program does. Nothing was read or written.
+    /// The words aren't a command of the program. Nothing was read or written.
     #[error("usage: names, or bind NAME=VALUE.. (writes the text, sends nothing)")]
     Usage,
-    /// A name stands twice among the parameters. Nothing was read or written.
+    /// A name is given twice among the parameters. Nothing was read or written.
     #[error("Redefinition of named parameter `{}'", Shown(.0.as_slice()))]
     Redefined(Vec<u8>),
-    /// The query whose names were asked for has both named and positional parameters. Nothing was
-    /// written.
+    /// The command is `names`, and the query has both names and marks. Nothing was written.
     #[error("Named and positional params in one query")]
     Mixed,
-    /// The parameters can't be bound into the query. The error is never out of memory: that is
-    /// `Memory`. Nothing was written.
+    /// The parameters can't be bound to the query. Nothing was written. The error is never out of
+    /// memory, which is `Memory`.
     #[error(transparent)]
     Bind(BindError),
     /// A read failed. Nothing was written.

@@ -1,4 +1,4 @@
-//! The command line: what the words of the program ask for.
+//! The command line: the command that the words of the program give.
 ghost use Rattle.std.specs.Str.{bytes_eq};
 ghost use Rattle.std.specs.Prelude.{◌∷◌, IsTrue, codes, ◌≡◌, Some, Ok, IfSome, IfNone, IsErrOf, alloc_error, map, ok_or, ⊤};
 ghost use Rattle.mysql_values.specs.Answer.{IsAnswer};
@@ -15,7 +15,7 @@ use mysql_values::value::Value;
 use mysql_values::value::convert::{FromValueError, from_value_opt};
 use std::alloc::{AllocError, AllocFailed, Global};
 
-// What words ask for.
+// A command.
 #[derive(Drop)]
 pub(crate) enum Command {
     // The names of a query.
@@ -27,9 +27,9 @@ pub(crate) enum Command {
 // Why words are refused.
 #[derive(Drop)]
 pub(crate) enum WordsError {
-    // They ask for nothing that the program does.
+    // They aren't a command of the program.
     Usage,
-    // This name stands twice.
+    // This name is given twice.
     Redefined(Vec<u8>),
     // Out of memory.
     Memory(AllocError),
@@ -72,7 +72,7 @@ impl From<FromValueError> for WordsError {
     }
 }
 
-// Judges words: `names` alone, or `bind` and words of a name and a value.
+// Checks the words: only `names`, or `bind` and words of a name and a value.
 pub(crate) fn judge(alloc: Global, words: &[String]) -> Result<Command, WordsError>
     ensures command { IsAnswer seen_command words_refusal
         (command_of (word_bytes words.now)) ⊤ result }
@@ -198,7 +198,7 @@ fn pair_of_word<'a>(alloc: Global, word: &'a str) -> Result<(&'a [u8], Value), W
     }
 }
 
-// What stands before the first `=` of a word, and after it.
+// The parts of a word before and after its first `=`.
 fn parts_of_word(word: &str) -> Option<(&str, &str)>
     ensures found { IfSome result (λ parts.
         parts_of_word word.now ≡ Some (parts.0.now, parts.1.now)) }
@@ -207,7 +207,7 @@ fn parts_of_word(word: &str) -> Option<(&str, &str)>
     word.split_once('=')
 }
 
-// The value that a text stands for.
+// The value of a text.
 fn parsed_value(alloc: Global, text: &[u8]) -> Result<Value, WordsError>
     ensures { IsAnswer (λ value. value) words_refusal
         (ok_or (parsed_value text.now) usage) ⊤ result }

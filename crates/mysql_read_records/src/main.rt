@@ -1,6 +1,6 @@
 //! Reads texts as tables, for tests. Each line of standard input is the name of a format, a space
 //! and a text in hexadecimal. Its line of standard output has the rows of the text, each ended by
-//! `;`, with `,` between the fields: hexadecimal, or `-` for NULL. If the text is no table, the
+//! `;`, with `,` between the fields: hexadecimal, or `-` for NULL. If the text isn't a table, the
 //! line is `!`, the index of the fault and its kind.
 #![tactic(auto)]
 
@@ -12,7 +12,7 @@ use std::process::ExitCode;
 // Why a line has no answer.
 #[derive(Drop)]
 enum Failure {
-    // It is no name of a format, a space and hexadecimal.
+    // It isn't the name of a format, a space and hexadecimal.
     Line,
     // Reading or writing failed, or memory was refused.
     System,
@@ -106,7 +106,8 @@ fn answer(rt: &HostRuntime) -> Result<(), Failure> {
     }
 }
 
-// Ends with the status 0 if each line has an answer, with 1 at a line that has none, else with 2.
+// Ends with status 0 if each line has an answer, with 1 at a line that has none, and with 2 if
+// reading, writing or memory failed.
 fn main(rt: HostRuntime) -> ExitCode {
     match answer(&rt) {
         Ok(()) => ExitCode::SUCCESS,
