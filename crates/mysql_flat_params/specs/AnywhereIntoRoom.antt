@@ -1,5 +1,5 @@
--- What an answer in a caller's room says of the query and the form if it is a text for any mode and
--- any server. A steady query has the same tokens in both modes.
+-- The promises about an answer in a caller's room that is a text for any mode and any server, for
+-- the query and the form. A steady query has the same tokens in both modes.
 use Rattle.std.specs.Prelude.{ℕ, Bool, List, Option, option_map}
 use Rattle.mysql_named_params.specs.Tokens.{Token, OnTokens}
 use Rattle.mysql_portable.specs.Steady.{first_unsteady}
@@ -9,20 +9,20 @@ use Rattle.mysql_flat_params.specs.SteadyIntoRoom.{IsSteadyForm, IsSteadyOutcome
 use Rattle.mysql_flat_params.specs.declared.outcome.Outcome.{Outcome}
 use Rattle.mysql_flat_params.specs.declared.outcome.Outcome.TheVariants.{Unsteady}
 
--- this is the query bound to what is given to it, for any mode and any server
+-- this is the query bound to the parameters that are given to it, for any mode and any server
 abbrev pub IsBoundAnywhere : List ℕ → Given → List ℕ → Type 0
 IsBoundAnywhere query given text =
     (mode : Bool) → OnTokens mode query (λ ts. IsAnywhereText query ts given text)
 
--- the form says parameters, and this is the query bound to them, for any mode and any server
+-- the form has parameters, and this is the query bound to them, for any mode and any server
 abbrev pub IsAnywhereForm : (query form text : List ℕ) → Type 0
 IsAnywhereForm query = IsSteadyForm (IsBoundAnywhere query)
 
--- what is told of a query that is refused whatever is given to it: its first byte that isn't
--- steady, or else its first construct that isn't portable
+-- the outcome for a query that is refused on its own, with any parameters: its first byte that
+-- isn't steady, or else its first construct that isn't portable
 abbrev pub anywhere_refusal : List ℕ → List Token → Option Outcome
 anywhere_refusal query = query_refusal (option_map Unsteady (first_unsteady query))
 
--- what an outcome of binding for any mode and any server says of the query and the form
+-- the meaning of an outcome of binding for any mode and any server, for the query and the form
 abbrev pub IsAnywhereOutcome : (query form : List ℕ) → Outcome → Type 0
 IsAnywhereOutcome query = IsSteadyOutcome (IsBoundAnywhere query) (anywhere_refusal query) query

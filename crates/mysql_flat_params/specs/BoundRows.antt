@@ -1,5 +1,5 @@
--- Rows: many forms, each as a length-encoded string, one after another, and the texts that a query
--- bound to them gives, likewise.
+-- Rows: many forms, each as a length-encoded string, one after another, and the texts of a query
+-- bound to them, in the same way.
 use Rattle.std.specs.Prelude.{◌≡◌, ◌+◌, ℕ, Bool, List, [], ◌++◌, length, Ok, Err}
 use Rattle.mysql_wire_part.specs.Reading.{ReadRefusal, unexpected_eof, bad_length_lead, unsupported_column}
 use Rattle.mysql_wire_part.specs.Reading as wire
@@ -10,8 +10,8 @@ use Rattle.mysql_flat_params.specs.IntoRoom.{IsBindOutcomeIn, IsBoundFormIn}
 use Rattle.mysql_flat_params.specs.declared.outcome.Outcome.{Outcome}
 use Rattle.mysql_flat_params.specs.declared.outcome.Outcome.TheVariants.{Done, OutOfMemory, Room, FormEnd, FormLengthLead, FormType}
 
--- The string at the front of these bytes is a form, this is the query bound to what it says, and
--- these bytes follow it.
+-- The string at the front of these bytes is a form, this is the query bound to the form's
+-- parameters, and `next` follows the form.
 abbrev pub IsBoundRowIn : (reading : Reading) (query bytes text next : List ℕ) → Type 0
 IsBoundRowIn reading query bytes text next =
     (form : List ℕ) × (read_lenenc bytes ≡ Ok (form, next))
@@ -40,7 +40,7 @@ abbrev pub AreBoundRows : (mode : Bool) (query forms : List ℕ) (count : ℕ) (
     → Type 0
 AreBoundRows mode = AreBoundRowsIn (grammar_reading mode)
 
--- what is told if no string can be read in which the form of a row stands; no type is refused there
+-- the outcome if the string with the form of a row can't be read; no type is refused there
 abbrev pub unread_row : ReadRefusal → Outcome
 unread_row unexpected_eof = FormEnd 0 0
 unread_row (bad_length_lead lead) = FormLengthLead 0 0 lead
@@ -57,7 +57,7 @@ abbrev pub IsRowRefusal : (mode : Bool) (query : List ℕ) → wire.Reading (Lis
     → Type 0
 IsRowRefusal mode = IsRowRefusalIn (grammar_reading mode)
 
--- the text of the row at the front takes so many bytes
+-- the text of the row at the front takes `len` bytes
 abbrev pub HasRowLengthIn : (reading : Reading) (query bytes : List ℕ) → ℕ → Type 0
 HasRowLengthIn reading query bytes len = (text next : List ℕ)
     × IsBoundRowIn reading query bytes text next
@@ -67,13 +67,13 @@ HasRowLengthIn reading query bytes len = (text next : List ℕ)
 abbrev pub HasRowLength : (mode : Bool) (query bytes : List ℕ) → ℕ → Type 0
 HasRowLength mode = HasRowLengthIn (grammar_reading mode)
 
--- what an outcome says of the rows that are left
+-- the meaning of an outcome, for the rows that are left
 abbrev pub IsRowsOutcomeIn : (reading : Reading) (query bytes : List ℕ) → Outcome → Type 0
 -- none is left
 IsRowsOutcomeIn reading query bytes (Done len) = bytes ≡ []
 -- some are left
 IsRowsOutcomeIn reading query bytes OutOfMemory = bytes ≡ [] → ⊥
--- the text of the first of them takes so many bytes
+-- the text of the first of them takes `len` bytes
 IsRowsOutcomeIn reading query bytes (Room len) = HasRowLengthIn reading query bytes len
 -- the first of them is refused for this
 IsRowsOutcomeIn reading query bytes outcome =

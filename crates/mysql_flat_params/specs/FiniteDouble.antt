@@ -1,5 +1,5 @@
--- What a value of a form says as a fragment and as an item: a finite float or double is a double,
--- and every other value is a value.
+-- The content of a value of a form as a fragment and as an item: a finite float or double is a
+-- double, and every other value is a value.
 use Rattle.std.specs.Prelude.{Option, Some, None, from_bits, if◌then◌else◌}
 use Rattle.std.specs.Float.{binary32, binary64, float_is_finite}
 use Rattle.std.specs.Float.Ieee.{Float}
@@ -18,10 +18,10 @@ finite_double (variant.Float bits) = if_finite (from_bits binary32 bits)
 finite_double (variant.Double bits) = if_finite (from_bits binary64 bits)
 finite_double said = None
 
--- what a value says as an item
+-- the content of a value as an item
 abbrev pub item_of_value : Value → ItemContent
 item_of_value said = option_map_or double_item (finite_double said) (value_item said)
 
--- what a value says as a fragment
+-- the content of a value as a fragment
 abbrev pub fragment_of_value : Value → FragmentContent
 fragment_of_value said = option_map_or double (finite_double said) (value said)

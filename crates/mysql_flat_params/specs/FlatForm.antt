@@ -1,9 +1,9 @@
--- The flat form of parameters. Parameters stand one after another up to the end of the form,
--- each as its name, a length-encoded string (of no bytes: by position); a byte, the number of
--- its column type; a byte of flags; and its value in binary form. Names, types, flags and values
+-- The flat form of parameters. Parameters come one after another up to the end of the form, each as
+-- its name, a length-encoded string, which is empty for a parameter by position; a byte, the number
+-- of its column type; a byte of flags; and its value in binary form. Names, types, flags and values
 -- are those of the MySQL client/server protocol ("Protocol::LengthEncodedString",
--- "COM_STMT_EXECUTE", "Binary Protocol Value"); that they stand one after another, without a
--- bitmap of NULLs, is this library's.
+-- "COM_STMT_EXECUTE", "Binary Protocol Value"). Their order, one after another and without a bitmap
+-- of NULLs, is this library's.
 use Rattle.std.specs.Prelude.{◌≡◌, ℕ, ◌+◌, ◌-◌, Bool, List, [], ◌∷◌, ◌++◌, length, if◌then◌else◌, Option, Some, None, Result, Ok, IsOk, Err}
 use Rattle.std.specs.FinMap as finite
 use Rattle.mysql_wire_part.specs.Reading.{ReadRefusal, Reading, unexpected_eof, bad_length_lead, unsupported_column}
@@ -19,16 +19,16 @@ use Rattle.mysql_flat_params.specs.ColumnNumbers.{column_type, is_unsigned_param
 pub data FormRefusal : Type 0 where
   -- the form ends within the parameter
   form_end : (place position : ℕ) → FormRefusal
-  -- a length-encoded string begins with this byte, which begins no length
+  -- a length-encoded string begins with this byte, which can't begin a length
   length_lead : (place position lead : ℕ) → FormRefusal
-  -- this is the number of no type, or of one whose values are not read
+  -- this isn't the number of a type whose values can be read
   unread_type : (place position number : ℕ) → FormRefusal
   -- it has a name and those before it have none, or it has none and those before it have one
   mixed_form : (place position : ℕ) → FormRefusal
   -- one before it has its name, of `len` bytes; here `position` is that of the name's first byte
   repeated_name : (place position len : ℕ) → FormRefusal
 
--- what stands at the front and the bytes that follow it, or why the form is refused
+-- the result that is read at the front and the bytes after it, or why the form is refused
 abbrev pub FormReading : Type 0 → Type 0
 FormReading X = Result (X × List ℕ) FormRefusal
 
@@ -48,7 +48,7 @@ in_parameter place position number (Err refusal) = Err (refused_in place positio
 abbrev pub read_name : (place position : ℕ) → List ℕ → FormReading (List ℕ)
 read_name place position bytes = in_parameter place position 0 (read_lenenc bytes)
 
--- a value of the type that a number stands for, if it stands for one
+-- a value of the type with this number, if there is one
 abbrev pub read_of_type : (place position number : ℕ) → Option ColumnType → Bool → List ℕ
     → FormReading Value
 read_of_type place position number None unsigned bytes = Err (unread_type place position number)
@@ -62,7 +62,7 @@ read_value place position (number ∷ []) = Err (form_end place position)
 read_value place position (number ∷ flags ∷ bytes) =
     read_of_type place position number (column_type number) (is_unsigned_parameter flags) bytes
 
--- why a name is refused after parameters that give this; the name itself stands at `at`
+-- why a name is refused after parameters that give this; the name itself is at `at`
 abbrev pub name_refusal : (place position at : ℕ) → Given → List ℕ → Option FormRefusal
 name_refusal place position at empty name = None
 name_refusal place position at (positional values) [] = None
@@ -73,14 +73,14 @@ name_refusal place position at (named entries) (b ∷ name) =
     then Some (repeated_name place at (length (b ∷ name)))
     else None
 
--- what is given with one more parameter, whose name is not refused
+-- the parameters with one more, whose name is not refused
 abbrev pub with_parameter : Given → List ℕ → Value → Given
 with_parameter empty [] value = positional (value ∷ [])
 with_parameter empty (b ∷ name) value = named (finite.insert finite.empty (b ∷ name) value)
 with_parameter (positional values) name value = positional (values ++ value ∷ [])
 with_parameter (named entries) name value = named (finite.insert entries name value)
 
--- what is given with the value that was read, or the refusal of the value
+-- the parameters with the value that was read, or the refusal of the value
 abbrev pub after_value : Given → List ℕ → FormReading Value → FormReading Given
 after_value given name (Ok read) = Ok (with_parameter given name read.0, read.1)
 after_value given name (Err refusal) = Err refusal
@@ -92,7 +92,7 @@ value_unless (Some refusal) place position given name bytes = Err refusal
 value_unless None place position given name bytes =
     after_value given name (read_value place position bytes)
 
--- the refusal of the name that was read, or else what is given with the value after it; the form
+-- the refusal of the name that was read, or else the parameters with the value after it; the form
 -- has `total` bytes
 abbrev pub after_name : (total place position : ℕ) → Given → FormReading (List ℕ)
     → FormReading Given
@@ -102,8 +102,8 @@ after_name total place position given (Ok read) =
     (name_refusal place position (total - length read.1 - length read.0) given read.0)
     place position given read.0 read.1
 
--- what is given with the parameter at the front of these bytes, with which a form of `total` bytes
--- ends: its name is read and judged, and then its value is read
+-- the parameters with the one at the front of these bytes, which are the end of a form of `total`
+-- bytes: its name is read and checked, and then its value is read
 abbrev pub read_parameter : (total place : ℕ) → Given → List ℕ → FormReading Given
 read_parameter total place given bytes =
     after_name total place (total - length bytes) given
@@ -113,7 +113,8 @@ read_parameter total place given bytes =
 abbrev pub HasFirstParameter : List ℕ → Type 0
 HasFirstParameter form = IsOk (read_parameter (length form) 0 empty form)
 
--- what the end of a form says after `place` parameters that give this, or why it is refused
+-- these bytes end a form after `place` parameters, which give this: the parameters of the whole
+-- form, or why it is refused
 pub data IsReadFrom : (total place : ℕ) → Given → List ℕ → Result Given FormRefusal → Type 0 where
   -- nothing is left
   read_to_end : (total place : ℕ) (given : Given) → IsReadFrom total place given [] (Ok given)
@@ -121,14 +122,14 @@ pub data IsReadFrom : (total place : ℕ) → Given → List ℕ → Result Give
   refused_at : (total place : ℕ) (given : Given) (b : ℕ) (bytes : List ℕ) (refusal : FormRefusal) →
       read_parameter total place given (b ∷ bytes) ≡ Err refusal →
       IsReadFrom total place given (b ∷ bytes) (Err refusal)
-  -- the next parameter is read, and the bytes after it say the rest
+  -- the next parameter is read, and then the bytes after it
   read_on : (total place : ℕ) (given : Given) (b : ℕ) (bytes : List ℕ) (more : Given)
       (rest : List ℕ) (reading : Result Given FormRefusal) →
       read_parameter total place given (b ∷ bytes) ≡ Ok (more, rest) →
       IsReadFrom total (place + 1) more rest reading →
       IsReadFrom total place given (b ∷ bytes) reading
 
--- what a form says, or why it is refused: its parameters are read in order, and the first refusal
--- ends it
+-- the parameters of a form, or why it is refused: they are read in order, and the first refusal
+-- ends the reading
 abbrev pub IsFormReading : List ℕ → Result Given FormRefusal → Type 0
 IsFormReading form = IsReadFrom (length form) 0 empty form

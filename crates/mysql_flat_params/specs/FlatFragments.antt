@@ -1,12 +1,12 @@
--- The flat form of fragments. Parameters stand one after another up to the end of the form, as in
--- the flat form of parameters (FlatForm.antt): each as its name, a length-encoded string (of no
--- bytes: by position); a byte, the number of a type; a byte of flags; and what a parameter of this
--- type has. A column type has its value in binary form, as there; a finite float or double is a
--- double here, which is written as a number. Eight numbers are types of this
--- library's own, for what isn't one value: no column type has a number from 21 to 241
--- (ColumnNumbers.antt), and these stand in between, since the protocol took new ones at both ends.
--- Their flags say nothing. A count is four bytes, least first ("Protocol::FixedLengthInteger"), so
--- that it can be written after what it counts.
+-- The flat form of fragments. Parameters come one after another up to the end of the form, as in
+-- the flat form of parameters (FlatForm.antt). Each is its name, a length-encoded string, which is
+-- empty for a parameter by position; a byte, the number of a type; a byte of flags; and the content
+-- for this type. A column type has its value in binary form, as there. A finite float or double is
+-- a double here, which is written as a number. Eight numbers are types of this library's own, for
+-- fragments that aren't one value. No column type has a number from 21 to 241 (ColumnNumbers.antt).
+-- The eight are in the middle of that range, because the protocol took new numbers at both ends.
+-- Their flags are ignored. A count is four bytes, least first ("Protocol::FixedLengthInteger"), so
+-- that it can be written after the things that it counts.
 use Rattle.std.specs.Prelude.{◌≡◌, ℕ, suc, zero, ◌+◌, ◌-◌, ◌==◌, List, [], ◌∷◌, ◌++◌, length, if◌then◌else◌, Option, Some, None, Result, Ok, Err}
 use Rattle.std.specs.FinMap as finite
 use Rattle.mysql_wire_part.specs.Reading.{read_number}
@@ -24,11 +24,12 @@ use Rattle.mysql_flat_params.specs.Keywords.{listed_keyword}
 abbrev pub number_type : ℕ
 number_type = 128
 
--- a list: the count of its items, and these, each as the number of its type, flags and its value
+-- a list: the count of its items, and the items, each as the number of its type, flags and its
+-- value
 abbrev pub list_type : ℕ
 list_type = 129
 
--- rows: the count of the rows, and each as a list
+-- rows: the count of the rows, and the rows, each like a list
 abbrev pub rows_type : ℕ
 rows_type = 130
 
@@ -36,7 +37,7 @@ rows_type = 130
 abbrev pub identifier_type : ℕ
 identifier_type = 131
 
--- a qualified identifier: the count of its names, and these, each as a length-encoded string
+-- a qualified identifier: the count of its names, and the names, each as a length-encoded string
 abbrev pub qualified_type : ℕ
 qualified_type = 132
 
@@ -44,23 +45,23 @@ qualified_type = 132
 abbrev pub keyword_type : ℕ
 keyword_type = 133
 
--- identifiers: the count of them, and each as a qualified identifier has its names
+-- identifiers: their count, and the names of each, like those of a qualified identifier
 abbrev pub identifiers_type : ℕ
 identifiers_type = 134
 
--- assignments: the count of them, and each as the names of its column, as a qualified identifier
--- has them, and its item, as a list has it
+-- assignments: their count, and for each the names of its column, like those of a qualified
+-- identifier, and its item, like one of a list
 abbrev pub assignments_type : ℕ
 assignments_type = 135
 
 -- ---- readings
 
--- a reading, with `make` applied to what is read
+-- a reading, with `make` applied to its result
 abbrev pub map_form : {X Y : Type 0} → (X → Y) → FormReading X → FormReading Y
 map_form make (Ok read) = Ok (make read.0, read.1)
 map_form make (Err refusal) = Err refusal
 
--- what is read next, which may depend on what is read before it
+-- the next reading, which may depend on the result of the first
 abbrev pub and_then_form : {X Y : Type 0} → FormReading X → (X → List ℕ → FormReading Y)
     → FormReading Y
 and_then_form (Ok read) next = next read.0 read.1
@@ -109,7 +110,7 @@ abbrev pub read_assignment : (place position : ℕ) → List ℕ → FormReading
 read_assignment place position bytes = and_then_form (read_names place position bytes)
     (λ names rest. map_form (λ item. (names, item)) (read_item place position rest))
 
--- a keyword, or one of no bytes if the text isn't one that a form may have
+-- a keyword; empty if the text isn't one that a form may have
 abbrev pub read_keyword : (place position : ℕ) → List ℕ → FormReading (List ℕ)
 read_keyword place position bytes = map_form listed_keyword (read_name place position bytes)
 
@@ -140,7 +141,7 @@ read_fragment place position (type ∷ flags ∷ bytes) =
 
 -- ---- parameters
 
--- why a name is refused after parameters that give this; the name itself stands at `at`
+-- why a name is refused after parameters that give this; the name itself is at `at`
 abbrev pub name_refusal : (place position at : ℕ) → GivenFragments → List ℕ → Option FormRefusal
 name_refusal place position at (positional []) name = None
 name_refusal place position at (positional (fragment ∷ fragments)) [] = None
@@ -152,7 +153,7 @@ name_refusal place position at (named entries) (b ∷ name) =
     then Some (repeated_name place at (length (b ∷ name)))
     else None
 
--- what is given with one more parameter, whose name is not refused
+-- the fragments with one more, whose name is not refused
 abbrev pub with_parameter : GivenFragments → List ℕ → Fragment → GivenFragments
 with_parameter (positional []) [] fragment = positional (fragment ∷ [])
 with_parameter (positional []) (b ∷ name) fragment =
@@ -168,8 +169,8 @@ fragment_unless (Some refusal) place position name bytes = Err refusal
 fragment_unless None place position name bytes =
     map_form (λ content. (name, content)) (read_fragment place position bytes)
 
--- the parameter at the front of these bytes, with which a form of `total` bytes ends: its name is
--- read and judged, and then its fragment is read
+-- the parameter at the front of these bytes, which are the end of a form of `total` bytes: its name
+-- is read and checked, and then its fragment is read
 abbrev pub read_parameter : (total place : ℕ) → GivenFragments → List ℕ
     → FormReading (List ℕ × FragmentContent)
 read_parameter total place given bytes =
@@ -177,14 +178,15 @@ read_parameter total place given bytes =
     (name_refusal place (total - length bytes) (total - length rest - length name) given name)
     place (total - length bytes) name rest)
 
--- these bytes begin with a parameter, `more` is what is given with it, and `rest` follows it
+-- these bytes begin with a parameter, `more` has the fragments with it, and `rest` follows it
 abbrev pub IsOneMore : (total place : ℕ) (given : GivenFragments) (bytes : List ℕ)
     (more : GivenFragments) (rest : List ℕ) → Type 0
 IsOneMore total place given bytes more rest = (name : List ℕ) × (fragment : Fragment)
     × (read_parameter total place given bytes ≡ Ok ((name, content_of fragment), rest))
     × (more ≡ with_parameter given name fragment)
 
--- what the end of a form says after `place` parameters that give this, or why it is refused
+-- these bytes end a form after `place` parameters, which give this: the fragments of the whole
+-- form, or why it is refused
 pub data IsReadFrom : (total place : ℕ) → GivenFragments → List ℕ
     → Result GivenFragments FormRefusal → Type 0 where
   -- nothing is left
@@ -194,14 +196,14 @@ pub data IsReadFrom : (total place : ℕ) → GivenFragments → List ℕ
   refused_at : (total place : ℕ) (given : GivenFragments) (b : ℕ) (bytes : List ℕ)
       (refusal : FormRefusal) → read_parameter total place given (b ∷ bytes) ≡ Err refusal →
       IsReadFrom total place given (b ∷ bytes) (Err refusal)
-  -- the next parameter is read, and the bytes after it say the rest
+  -- the next parameter is read, and then the bytes after it
   read_on : (total place : ℕ) (given : GivenFragments) (b : ℕ) (bytes : List ℕ)
       (more : GivenFragments) (rest : List ℕ) (reading : Result GivenFragments FormRefusal) →
       IsOneMore total place given (b ∷ bytes) more rest →
       IsReadFrom total (place + 1) more rest reading →
       IsReadFrom total place given (b ∷ bytes) reading
 
--- What a form says, or why it is refused: its parameters are read in order, and the first refusal
--- ends it. The empty form gives no fragments, by position.
+-- The fragments of a form, or why it is refused: its parameters are read in order, and the first
+-- refusal ends the reading. The empty form has no fragments, by position.
 abbrev pub IsFormReading : List ℕ → Result GivenFragments FormRefusal → Type 0
 IsFormReading form = IsReadFrom (length form) 0 (positional []) form

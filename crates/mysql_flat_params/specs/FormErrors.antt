@@ -1,11 +1,11 @@
--- Which refusal of a form each error is.
+-- The refusal of a form that each error reports.
 use Rattle.std.specs.Prelude.{◌≡◌, ◌⊎◌, ℕ, List, length, Option, None, Some, Err, alloc_error}
 use Rattle.mysql_params_core.specs.GivenValues.{Given, empty}
 use Rattle.mysql_flat_params.specs.FlatForm.{FormRefusal, form_end, length_lead, unread_type, mixed_form, repeated_name, IsReadFrom}
 use Rattle.mysql_flat_params.specs.declared.form_error.FormError.{FormError}
 use Rattle.mysql_flat_params.specs.declared.form_error.FormError.TheVariants.{End, LengthLead, UnsupportedType, Mixed, Repeated, Memory}
 
--- the refusal that the error stands for; none for out of memory
+-- the refusal that the error reports; none for out of memory
 abbrev pub form_refusal : FormError → Option FormRefusal
 form_refusal (End place position) = Some (form_end place position)
 form_refusal (LengthLead place position lead) = Some (length_lead place position lead)

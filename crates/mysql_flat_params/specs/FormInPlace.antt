@@ -1,4 +1,5 @@
--- Private: what is kept of a form of fragments where it lies, and which fragments this says.
+-- Private: the fragments of a form that are kept in the form's own bytes, and the fragments of the
+-- same content.
 use Rattle.std.specs.Prelude.{◌≡◌, ℕ, List, [], ◌∷◌, map, Option, Some, None, ⊤}
 use Rattle.std.specs.Borrow.{Bor}
 use Rattle.std.specs.FinMap.{get}
@@ -21,15 +22,15 @@ use Rattle.mysql_flat_params.specs.declared.rows_in_place.RowsInPlace.{RowsInPla
 use Rattle.mysql_flat_params.specs.declared.fragments_in_place.FormInPlace.{FormInPlace}
 use Rattle.mysql_flat_params.specs.declared.fragments_in_place.FormInPlace.TheVariants as whole
 
--- what a value says as an item
+-- the content of a value as an item
 abbrev pub cell_content : ValueRef → ItemContent
 cell_content cell = value_item (owned cell)
 
--- what cells say, row by row
+-- the contents of cells, row by row
 abbrev pub rows_content : RowsInPlace → List (List ItemContent)
 rows_content rows = map (map cell_content) (first_chunks rows.width rows.count rows.cells.items)
 
--- the fragment is what is kept, or has the values that are kept
+-- the fragment is the kept one, or has the values that are kept
 abbrev pub IsKeptAs : FragmentInPlace → Fragment → Type 0
 IsKeptAs (kept.Value value) said = said ≡ one.Value (owned value)
 IsKeptAs (kept.List cells) said = (items : Vec Item) × (said ≡ one.List items)
@@ -39,30 +40,30 @@ IsKeptAs (kept.Rows rows) said = (said_rows : Vec (Vec Item)) × (said ≡ one.R
     ≡ map (map cell_item) (first_chunks rows.width rows.count rows.cells.items))
 IsKeptAs (kept.Copied fragment) said = said ≡ fragment
 
--- as many fragments, and each is what is kept of it
+-- there are as many fragments, and each is the kept one
 abbrev pub AreKeptAs : List FragmentInPlace → List Fragment → Type 0
 AreKeptAs [] [] = ⊤
 AreKeptAs [] (said ∷ more) = ⊥
 AreKeptAs (fragment ∷ fragments) [] = ⊥
 AreKeptAs (fragment ∷ fragments) (said ∷ more) = IsKeptAs fragment said × AreKeptAs fragments more
 
--- there is no fragment, and none is kept; or the fragment is what is kept
+-- there is no fragment, and none is kept; or the fragment is the kept one
 abbrev pub IsFoundAs : Option FragmentInPlace → Option Fragment → Type 0
 IsFoundAs None None = ⊤
 IsFoundAs None (Some said) = ⊥
 IsFoundAs (Some fragment) None = ⊥
 IsFoundAs (Some fragment) (Some said) = IsKeptAs fragment said
 
--- what is kept under a name
+-- the fragment that is kept under a name
 abbrev pub kept_at : List (Bor (List ℕ) × FragmentInPlace) → List ℕ → Option FragmentInPlace
 kept_at entries name = lookup (λ key. is_eq (slice_cmp nat_cmp name key.now)) entries
 
--- each name has what is kept under it
+-- each name has the fragment that is kept under it
 abbrev pub IsMapKeptAs : List (Bor (List ℕ) × FragmentInPlace) → FragmentMap → Type 0
 IsMapKeptAs entries fragments =
     (name : List ℕ) → IsFoundAs (kept_at entries name) (get fragments name)
 
--- this is given by what is kept
+-- these fragments are given by the kept ones
 abbrev pub IsGivenAs : FormInPlace → GivenFragments → Type 0
 IsGivenAs (whole.Positional list) given =
     (said : List Fragment) × (given ≡ positional said) × AreKeptAs list.items said

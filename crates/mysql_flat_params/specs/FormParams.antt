@@ -1,4 +1,4 @@
--- Private: what the form's parameters give, with names in a hash map or kept in place.
+-- Private: the form's parameters, with names in a hash map or kept in place.
 use Rattle.std.specs.Prelude.{ℕ, List, []}
 use Rattle.std.specs.Borrow.{Bor}
 use Rattle.mysql_value_core.specs.declared.value.ValueRef.{ValueRef}
@@ -10,18 +10,18 @@ use Rattle.mysql_flat_params.specs.declared.form.FormParams.TheVariants.{Empty, 
 use Rattle.mysql_flat_params.specs.declared.form_names.NamesInPlace.{NamesInPlace}
 use Rattle.mysql_flat_params.specs.declared.form_names.NamesInPlace.TheVariants.{Pairs, Sorted}
 
--- what they give, by what the names stand for
+-- the parameters, by the map that the names stand for
 abbrev pub given_in_form : {M : Type 0} → (M → ValueMap) → FormParams M → Given
 given_in_form values Empty = empty
 given_in_form values (Named names) = named (values names)
 given_in_form values (Positional list) = positional (owned_values list.items)
 
--- what names that are kept in place stand for
+-- the map that names kept in place stand for
 abbrev pub values_in_place : NamesInPlace → ValueMap
 values_in_place (Pairs pairs) = pair_map pairs.items
 values_in_place (Sorted entries) = pair_map entries.entries
 
--- what they give, if the names are kept in place
+-- the parameters, if the names are kept in place
 abbrev pub given_in_place : FormParams NamesInPlace → Given
 given_in_place = given_in_form values_in_place
 

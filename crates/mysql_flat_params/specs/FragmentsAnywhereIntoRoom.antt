@@ -1,5 +1,5 @@
--- What an answer in a caller's room says of the query and the form of fragments if it is a text for
--- any mode and any server. A steady query has the same tokens in both modes.
+-- The promises about an answer in a caller's room that is a text for any mode and any server, for
+-- the query and the form of fragments. A steady query has the same tokens in both modes.
 use Rattle.std.specs.Prelude.{◌≡◌, ℕ, Bool, true, false, List, length, Some, None, Ok, Err, ⊤}
 use Rattle.mysql_named_params.specs.NamesAndMarks.{names}
 use Rattle.mysql_named_params.specs.Reading.{OnTokensIn, OnWideTokens, reading_with}
@@ -34,43 +34,43 @@ IsAnywhereTextIn false query given text =
 IsAnywhereTextIn true query given text =
     (mode : Bool) → OnWideTokens mode query (λ ts. IsWideAnywhereFragments ts given text)
 
--- the form says fragments, and this is the query bound so to them
+-- the form has fragments, and this is the query bound so to them
 abbrev pub IsAnywhereFormIn : (wide : Bool) (query form text : List ℕ) → Type 0
 IsAnywhereFormIn wide query form text = (given : GivenFragments) × IsFormReading form (Ok given)
     × IsAnywhereTextIn wide query given text
 
--- the query bound so to what the form says has this length
+-- the query bound so to the form's fragments has this length
 abbrev pub HasAnywhereLengthIn : (wide : Bool) (query form : List ℕ) → ℕ → Type 0
 HasAnywhereLengthIn wide query form len =
     (text : List ℕ) × IsAnywhereFormIn wide query form text × (length text ≡ len)
 
--- the form says fragments, and in either mode this is told of the query, which is refused whatever
--- is given to it
+-- the form has fragments, and in either mode this is the outcome for the query, which is refused on
+-- its own, with any fragments
 abbrev pub IsRefusedQueryIn : (wide : Bool) (query form : List ℕ) → Outcome → Type 0
 IsRefusedQueryIn wide query form told =
     ((given : GivenFragments) × IsFormReading form (Ok given)) × ((mode : Bool) →
     OnTokensIn (reading_with wide mode) query (λ ts.
     anywhere_refusal query (portable_tokens wide ts) ≡ Some told))
 
--- in neither mode is anything told of the query whatever is given to it
+-- in neither mode is the query refused on its own
 abbrev pub IsTakenQueryIn : (wide : Bool) → List ℕ → Type 0
 IsTakenQueryIn wide query = (mode : Bool) → OnTokensIn (reading_with wide mode) query (λ ts.
     anywhere_refusal query (portable_tokens wide ts) ≡ None)
 
--- the form says fragments, for which no cause refuses the query, and that for this place is the
--- first whose text isn't steady
+-- the form has fragments for which no cause refuses the query, and the fragment for this place is
+-- the first whose text isn't steady
 abbrev pub IsUnsteadyForIn : (reading : Reading) (query form : List ℕ) → ℕ → Type 0
 IsUnsteadyForIn reading query form place =
     (given : GivenFragments) × IsFormReading form (Ok given)
     × OnTokensIn reading query (λ ts. (first_cause true ts given ≡ None)
     × (unsteady_place (fragments_for given (names ts)) ≡ Some place))
 
--- what an outcome that binding values has too says of the query and the form
+-- the meaning of an outcome that binding values has too, for the query and the form
 abbrev pub IsAnywhereAsValuesIn : (wide : Bool) (query form : List ℕ) → Outcome → Type 0
 -- the bound text has this length
 IsAnywhereAsValuesIn wide query form (Done len) = HasAnywhereLengthIn wide query form len
 IsAnywhereAsValuesIn wide query form (Room len) = HasAnywhereLengthIn wide query form len
--- out of memory says nothing
+-- out of memory promises nothing
 IsAnywhereAsValuesIn wide query form OutOfMemory = ⊤
 -- the form is refused for this
 IsAnywhereAsValuesIn wide query form (FormEnd place position) =
@@ -83,16 +83,16 @@ IsAnywhereAsValuesIn wide query form (FormMixed place position) =
     IsFormReading form (Err (mixed_form place position))
 IsAnywhereAsValuesIn wide query form (FormRepeated place position len) =
     IsFormReading form (Err (repeated_name place position len))
--- the form is not refused, and this is told of the query
+-- the form is not refused, and this is the outcome for the query
 IsAnywhereAsValuesIn wide query form (Unsteady position) =
     IsRefusedQueryIn wide query form (Unsteady position)
 IsAnywhereAsValuesIn wide query form (Unportable number position) =
     IsRefusedQueryIn wide query form (Unportable number position)
--- nothing is told of the query, and the outcome is that of binding in a mode, in either
+-- the query isn't refused on its own, and in either mode the outcome is that of binding in the mode
 IsAnywhereAsValuesIn wide query form outcome = IsTakenQueryIn wide query
     × ((mode : Bool) → IsOutcomeAsValuesIn (reading_with wide mode) query form outcome)
 
--- what an outcome says of the query and the form
+-- the meaning of an outcome, for the query and the form
 abbrev pub IsAnywhereOutcomeIn : (wide : Bool) (query form : List ℕ) → FragmentsOutcome → Type 0
 IsAnywhereOutcomeIn wide query form (AsValues outcome) =
     IsAnywhereAsValuesIn wide query form outcome
@@ -104,20 +104,20 @@ IsAnywhereOutcomeIn wide query form (UnsteadyFragment place) = IsTakenQueryIn wi
 
 -- ---- by the names of the grammar
 
--- the form says fragments, and this is the query bound so to them
+-- the form has fragments, and this is the query bound so to them
 abbrev pub IsAnywhereForm : (query form text : List ℕ) → Type 0
 IsAnywhereForm = IsAnywhereFormIn false
 
--- what an outcome says of the query and the form
+-- the meaning of an outcome, for the query and the form
 abbrev pub IsAnywhereOutcome : (query form : List ℕ) → FragmentsOutcome → Type 0
 IsAnywhereOutcome = IsAnywhereOutcomeIn false
 
 -- ---- by wide names
 
--- the form says fragments, and this is the query bound so to them
+-- the form has fragments, and this is the query bound so to them
 abbrev pub IsWideAnywhereForm : (query form text : List ℕ) → Type 0
 IsWideAnywhereForm = IsAnywhereFormIn true
 
--- what an outcome says of the query and the form
+-- the meaning of an outcome, for the query and the form
 abbrev pub IsWideAnywhereOutcome : (query form : List ℕ) → FragmentsOutcome → Type 0
 IsWideAnywhereOutcome = IsAnywhereOutcomeIn true

@@ -1,4 +1,4 @@
--- Which refusal of a form of fragments each error is.
+-- The refusal of a form of fragments that each error reports.
 use Rattle.std.specs.Prelude.{◌≡◌, ◌⊎◌, ℕ, List, Some, Err, alloc_error}
 use Rattle.mysql_flat_params.specs.FlatForm.{FormRefusal}
 use Rattle.mysql_flat_params.specs.FormErrors.{form_refusal}

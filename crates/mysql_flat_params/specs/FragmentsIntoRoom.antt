@@ -1,4 +1,5 @@
--- What an answer in a caller's room says of the query, in a reading, and the form of fragments.
+-- The promises about an answer in a caller's room, for the query, in a reading, and the form of
+-- fragments.
 use Rattle.std.specs.Prelude.{◌≡◌, ℕ, Bool, true, List, length, Some, Ok, Err, ⊤}
 use Rattle.mysql_named_params.specs.Reading.{OnTokensIn, grammar_reading}
 use Rattle.mysql_named_params.specs.declared.places.Reading.{Reading}
@@ -14,7 +15,7 @@ use Rattle.mysql_flat_params.specs.FlatFragments.{IsFormReading}
 use Rattle.mysql_flat_params.specs.declared.fragments_outcome.FragmentsOutcome.{FragmentsOutcome}
 use Rattle.mysql_flat_params.specs.declared.fragments_outcome.FragmentsOutcome.TheVariants.{AsValues, Fault, UnsteadyFragment}
 
--- the form says fragments, and this is the query bound to them
+-- the form has fragments, and this is the query bound to them
 abbrev pub IsBoundFormIn : (reading : Reading) (query form text : List ℕ) → Type 0
 IsBoundFormIn reading query form text = (given : GivenFragments) × IsFormReading form (Ok given)
     × OnTokensIn reading query (λ ts. IsBoundFragments reading.no_backslash_escape ts given text)
@@ -23,7 +24,7 @@ IsBoundFormIn reading query form text = (given : GivenFragments) × IsFormReadin
 abbrev pub IsBoundForm : (mode : Bool) (query form text : List ℕ) → Type 0
 IsBoundForm mode = IsBoundFormIn (grammar_reading mode)
 
--- the form says fragments, for which binding to the query is refused, and this is the first cause
+-- the form has fragments, for which binding to the query is refused, and this is the first cause
 abbrev pub IsRefusedForIn : (reading : Reading) (query form : List ℕ) → Cause → Type 0
 IsRefusedForIn reading query form cause = (given : GivenFragments) × IsFormReading form (Ok given)
     × OnTokensIn reading query (λ ts. first_cause true ts given ≡ Some cause)
@@ -32,7 +33,7 @@ IsRefusedForIn reading query form cause = (given : GivenFragments) × IsFormRead
 abbrev pub IsRefusedFor : (mode : Bool) (query form : List ℕ) → Cause → Type 0
 IsRefusedFor mode = IsRefusedForIn (grammar_reading mode)
 
--- the query bound to what the form says has this length
+-- the query bound to the form's fragments has this length
 abbrev pub HasBoundLengthIn : (reading : Reading) (query form : List ℕ) → ℕ → Type 0
 HasBoundLengthIn reading query form len =
     (text : List ℕ) × IsBoundFormIn reading query form text × (length text ≡ len)
@@ -41,12 +42,12 @@ HasBoundLengthIn reading query form len =
 abbrev pub HasBoundLength : (mode : Bool) (query form : List ℕ) → ℕ → Type 0
 HasBoundLength mode = HasBoundLengthIn (grammar_reading mode)
 
--- what an outcome that binding values has too says of the query and the form
+-- the meaning of an outcome that binding values has too, for the query and the form
 abbrev pub IsOutcomeAsValuesIn : (reading : Reading) (query form : List ℕ) → Outcome → Type 0
 -- the bound text has this length
 IsOutcomeAsValuesIn reading query form (Done len) = HasBoundLengthIn reading query form len
 IsOutcomeAsValuesIn reading query form (Room len) = HasBoundLengthIn reading query form len
--- out of memory says nothing
+-- out of memory promises nothing
 IsOutcomeAsValuesIn reading query form OutOfMemory = ⊤
 -- the form is refused for this
 IsOutcomeAsValuesIn reading query form (FormEnd place position) =
@@ -83,7 +84,7 @@ IsOutcomeAsValuesIn reading query form (Backslash position) = ⊥
 abbrev pub IsOutcomeAsValues : (mode : Bool) (query form : List ℕ) → Outcome → Type 0
 IsOutcomeAsValues mode = IsOutcomeAsValuesIn (grammar_reading mode)
 
--- what an outcome says of the query and the form
+-- the meaning of an outcome, for the query and the form
 abbrev pub IsFragmentsOutcomeIn : (reading : Reading) (query form : List ℕ) → FragmentsOutcome →
     Type 0
 IsFragmentsOutcomeIn reading query form (AsValues outcome) =

@@ -1,4 +1,4 @@
--- What became of a call that binds fragments into a caller's room, as a number and fields.
+-- The outcome of a call that binds fragments into a caller's room, as a number and fields.
 use Rattle.std.specs.Prelude.{◌≡◌, ℕ, ℤ, pos, ⊤}
 use Rattle.mysql_fragments.specs.declared.fragments_error.FragmentFault.{FragmentFault}
 use Rattle.mysql_fragments.specs.declared.fragments_error.FragmentFault.TheVariants.{Empty, EmptyRow, RowLength, Number, EmptyName, ZeroByte, LongName, TrailingSpace, Keyword, Backslash}
@@ -73,13 +73,13 @@ UnlessDone (AsValues outcome) P = values.UnlessDone outcome P
 UnlessDone (Fault place fault) P = P
 UnlessDone (UnsteadyFragment place) P = P
 
--- there is no text, or none is told
+-- there is no text, or none is reported
 abbrev pub HasNoAnswer : FragmentsOutcome → Type 0
 HasNoAnswer (AsValues outcome) = values.HasNoAnswer outcome
 HasNoAnswer (Fault place fault) = ⊤
 HasNoAnswer (UnsteadyFragment place) = ⊤
 
--- this number and these fields are those of an outcome of which this holds
+-- this number and these fields are those of an outcome with this property
 abbrev pub IsTold : ℤ → Report → (FragmentsOutcome → Type 0) → Type 0
 IsTold number report P = (outcome : FragmentsOutcome) × (number ≡ pos (number_of outcome))
     × (report ≡ report_of outcome) × P outcome

@@ -1,4 +1,4 @@
--- What an answer in a caller's room says of the query, in a reading, and the form.
+-- The promises about an answer in a caller's room, for the query, in a reading, and the form.
 use Rattle.std.specs.Prelude.{◌≡◌, ◌≤◌, ◌<◌, ℕ, Bool, List, length, take, drop, Some, Ok, Err, ⊤}
 use Rattle.std.specs.List.{Contains}
 use Rattle.mysql_named_params.specs.Reading.{OnTokensIn, grammar_reading}
@@ -19,7 +19,7 @@ use Rattle.mysql_flat_params.specs.NamesAnswer.{names_answer}
 use Rattle.mysql_flat_params.specs.declared.outcome.Outcome.{Outcome}
 use Rattle.mysql_flat_params.specs.declared.outcome.Outcome.TheVariants.{Done, OutOfMemory, Room, FormEnd, FormLengthLead, FormType, FormMixed, FormRepeated, Mixed, Missing, NamedForPositional, PositionalForNamed, MarkCount, NotAlone, Float, Unsteady, Unportable, Backslash}
 
--- The answer stands at the front of the room, and what is after it is unchanged; or the room is
+-- The answer is at the front of the room, and the rest of the room is unchanged; or the room is
 -- shorter than the answer, and unchanged. The bytes of the room are `old` before the call and `new`
 -- after it.
 abbrev pub IsInRoom : (answer old new : List ℕ) → Outcome → Type 0
@@ -34,7 +34,7 @@ abbrev pub IsInRoomOrMemory : (answer old new : List ℕ) → Outcome → Type 0
 IsInRoomOrMemory answer old new OutOfMemory = new ≡ old
 IsInRoomOrMemory answer old new outcome = IsInRoom answer old new outcome
 
--- the outcome tells the first place of this name
+-- the outcome reports the first place of this name
 abbrev pub IsMissingNameIn : (reading : Reading) (query name : List ℕ) → Outcome → Type 0
 IsMissingNameIn reading query name (Missing place position len) = (length name ≡ len)
     × OnTokensIn reading query (λ ts. IsFirstOfName ts name place position)
@@ -54,7 +54,7 @@ MissesOtherNameIn reading query error = (name : List ℕ)
 abbrev pub MissesOtherName : (mode : Bool) (query : List ℕ) → BindError → Type 0
 MissesOtherName mode = MissesOtherNameIn (grammar_reading mode)
 
--- the form says parameters, and this is the query bound to them
+-- the form has parameters, and this is the query bound to them
 abbrev pub IsBoundFormIn : (reading : Reading) (query form text : List ℕ) → Type 0
 IsBoundFormIn reading query form text = (given : Given) × IsFormReading form (Ok given)
     × OnTokensIn reading query (λ ts. IsBoundText reading.no_backslash_escape ts given text)
@@ -63,7 +63,7 @@ IsBoundFormIn reading query form text = (given : Given) × IsFormReading form (O
 abbrev pub IsBoundForm : (mode : Bool) (query form text : List ℕ) → Type 0
 IsBoundForm mode = IsBoundFormIn (grammar_reading mode)
 
--- the form says parameters, for which binding to the query is refused, and this is the first cause
+-- the form has parameters, for which binding to the query is refused, and this is the first cause
 abbrev pub IsRefusedForIn : (reading : Reading) (query form : List ℕ) → Cause → Type 0
 IsRefusedForIn reading query form cause = (given : Given) × IsFormReading form (Ok given)
     × OnTokensIn reading query (λ ts. first_cause ts given ≡ Some cause)
@@ -72,7 +72,7 @@ IsRefusedForIn reading query form cause = (given : Given) × IsFormReading form 
 abbrev pub IsRefusedFor : (mode : Bool) (query form : List ℕ) → Cause → Type 0
 IsRefusedFor mode = IsRefusedForIn (grammar_reading mode)
 
--- the query bound to what the form says has this length
+-- the query bound to the form's parameters has this length
 abbrev pub HasBoundLengthIn : (reading : Reading) (query form : List ℕ) → ℕ → Type 0
 HasBoundLengthIn reading query form len =
     (text : List ℕ) × IsBoundFormIn reading query form text × (length text ≡ len)
@@ -81,12 +81,12 @@ HasBoundLengthIn reading query form len =
 abbrev pub HasBoundLength : (mode : Bool) (query form : List ℕ) → ℕ → Type 0
 HasBoundLength mode = HasBoundLengthIn (grammar_reading mode)
 
--- what an outcome of binding says of the query and the form
+-- the meaning of an outcome of binding, for the query and the form
 abbrev pub IsBindOutcomeIn : (reading : Reading) (query form : List ℕ) → Outcome → Type 0
 -- the bound text has this length
 IsBindOutcomeIn reading query form (Done len) = HasBoundLengthIn reading query form len
 IsBindOutcomeIn reading query form (Room len) = HasBoundLengthIn reading query form len
--- out of memory says nothing
+-- out of memory promises nothing
 IsBindOutcomeIn reading query form OutOfMemory = ⊤
 -- the form is refused for this
 IsBindOutcomeIn reading query form (FormEnd place position) =
@@ -123,7 +123,7 @@ IsBindOutcomeIn reading query form (Backslash position) = ⊥
 abbrev pub IsBindOutcome : (mode : Bool) (query form : List ℕ) → Outcome → Type 0
 IsBindOutcome mode = IsBindOutcomeIn (grammar_reading mode)
 
--- the query has no names or no marks, and this is answered to it
+-- the query has no names or no marks, and this is the answer to it
 abbrev pub IsNamesAnswerIn : (reading : Reading) (query text : List ℕ) → Type 0
 IsNamesAnswerIn reading query text = OnTokensIn reading query (λ ts.
     (HasName ts × HasMark ts → ⊥) × (text ≡ names_answer (parsed ts)))
@@ -149,7 +149,7 @@ IfMixedIn reading query P = OnTokensIn reading query (λ ts. HasName ts × HasMa
 abbrev pub IfMixed : (mode : Bool) (query : List ℕ) → Type 0 → Type 0
 IfMixed mode = IfMixedIn (grammar_reading mode)
 
--- what an outcome of asking for names says of the query; it is none of the others
+-- the meaning of an outcome of asking for names, for the query; no other outcome comes
 abbrev pub IsNamesOutcomeIn : (reading : Reading) (query : List ℕ) → Outcome → Type 0
 IsNamesOutcomeIn reading query (Done len) = HasNamesLengthIn reading query len
 IsNamesOutcomeIn reading query (Room len) = HasNamesLengthIn reading query len

@@ -1,4 +1,4 @@
--- What is answered to a query whose names are asked for.
+-- The answer to a query whose names are asked for.
 use Rattle.std.specs.Prelude.{ℕ, List, [], ◌∷◌, ◌++◌}
 use Rattle.mysql_wire_part.specs.Lenenc.{lenenc_spelling}
 use Rattle.mysql_named_params.specs.Parsed.{Parsed}

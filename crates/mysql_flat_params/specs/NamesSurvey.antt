@@ -1,4 +1,4 @@
--- What is known of the names of a query before the answer is written. For the private
+-- The facts about the names of a query before the answer is written. For the private
 -- `names_survey`; no public contract cites it.
 use Rattle.std.specs.Prelude.{◌≡◌, List, length}
 use Rattle.mysql_named_params.specs.Tokens.{Token, text_of}
@@ -7,8 +7,8 @@ use Rattle.mysql_named_params.specs.Places.{with_marks}
 use Rattle.mysql_flat_params.specs.NamesAnswer.{lenenc_row}
 use Rattle.mysql_flat_params.specs.declared.names_room.NamesSurvey.{NamesSurvey}
 
--- these tokens have this many names and marks, and this long are their text with marks in place of
--- the names, and the names, each as a length-encoded string
+-- these tokens have this many names and marks, and these are the lengths of their text with marks
+-- in place of the names, and of the names, each as a length-encoded string
 abbrev pub IsNamesSurvey : NamesSurvey → List Token → Type 0
 IsNamesSurvey survey ts =
     (survey.names ≡ length (names ts)) × (survey.marks ≡ marks ts)

@@ -1,4 +1,4 @@
--- What became of a call that writes into a caller's room, as a number and fields.
+-- The outcome of a call that writes into a caller's room, as a number and fields.
 use Rattle.std.specs.Prelude.{◌≡◌, ℕ, ℤ, pos, ⊤}
 use Rattle.mysql_binding.specs.declared.binding.room.TextInRoom.{TextInRoom}
 use Rattle.mysql_binding.specs.declared.binding.room.TextInRoom.TheVariants.{Written, TooShort}
@@ -57,12 +57,12 @@ report_of (Unportable number position) =
     record no_fields { position = position; byte = number }
 report_of (Backslash position) = record no_fields { position = position }
 
--- what is told of a text in a room
+-- the outcome for a text in a room
 abbrev pub text_outcome : TextInRoom → Outcome
 text_outcome (Written len) = Done len
 text_outcome (TooShort len) = Room len
 
--- there is no answer, or none is told
+-- there is no answer, or none is reported
 abbrev pub HasNoAnswer : Outcome → Type 0
 HasNoAnswer (Done len) = ⊥
 HasNoAnswer (Room len) = ⊥
@@ -83,7 +83,7 @@ abbrev pub UnlessDone : Outcome → Type 0 → Type 0
 UnlessDone (Done len) P = ⊤
 UnlessDone outcome P = P
 
--- this number and these fields are those of an outcome of which this holds
+-- this number and these fields are those of an outcome with this property
 abbrev pub IsTold : ℤ → Report → (Outcome → Type 0) → Type 0
 IsTold number report P = (outcome : Outcome) × (number ≡ pos (number_of outcome))
     × (report ≡ report_of outcome) × P outcome

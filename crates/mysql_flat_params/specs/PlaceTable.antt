@@ -23,7 +23,7 @@ use Rattle.mysql_flat_params.specs.declared.place_table.TableOutcome.{TableOutco
 use Rattle.mysql_flat_params.specs.declared.place_table.Template.{Template}
 use Rattle.mysql_flat_params.specs.declared.place_table.TableOutcome.TheVariants.{AsQuery, OtherTable}
 
--- what the head of a table says of the places
+-- the head of a table as a survey of the places
 abbrev pub survey_of : TableHead → Survey
 survey_of head = record {
   names = head.names;
@@ -67,8 +67,8 @@ CanHaveTableIn template =
 abbrev pub CanHaveTable : Template → Type 0
 CanHaveTable template = CanHaveTableIn (read_template template)
 
--- the table of the query in the reading is made: its head, and its places at the front of the room,
--- behind which nothing is changed
+-- the table of the query in the reading is made: its head, and its places at the front of the room;
+-- the rest of the room is unchanged
 abbrev pub IsMadeTableIn : (reading : Reading) (query : List ℕ) → TableHead →
     (old new : List PlaceSpan) → ℕ → Type 0
 IsMadeTableIn reading query head old new len = (len ≤ length old)
@@ -79,22 +79,22 @@ abbrev pub IsMadeTable : (mode : Bool) (query : List ℕ) → TableHead → (old
     → Type 0
 IsMadeTable mode = IsMadeTableIn (grammar_reading mode)
 
--- what an outcome of making the table says of the query
+-- the meaning of an outcome of making the table, for the query
 abbrev pub IsTableOutcomeIn : (reading : Reading) (query : List ℕ) → Outcome → Type 0
--- it has so many places
+-- it has this many places
 IsTableOutcomeIn reading query (Done len) = OnTokensIn reading query (λ ts. len ≡ place_count ts)
 IsTableOutcomeIn reading query (Room len) = OnTokensIn reading query (λ ts. len ≡ place_count ts)
 -- it has some
 IsTableOutcomeIn reading query OutOfMemory =
     OnTokensIn reading query (λ ts. place_count ts ≡ 0 → ⊥)
--- it is none of the others
+-- no other outcome comes
 IsTableOutcomeIn reading query outcome = ⊥
 
 -- the same by the names of the grammar
 abbrev pub IsTableOutcome : (mode : Bool) (query : List ℕ) → Outcome → Type 0
 IsTableOutcome mode = IsTableOutcomeIn (grammar_reading mode)
 
--- what an outcome of binding by the table of a query says of the query and the form
+-- the meaning of an outcome of binding by the table of a query, for the query and the form
 abbrev pub IsTableBindOutcomeIn : (reading : Reading) (query form : List ℕ) → TableOutcome → Type 0
 IsTableBindOutcomeIn reading query form (AsQuery outcome) =
     IsBindOutcomeIn reading query form outcome
@@ -104,8 +104,8 @@ IsTableBindOutcomeIn reading query form OtherTable = ⊥
 abbrev pub IsTableBindOutcome : (mode : Bool) (query form : List ℕ) → TableOutcome → Type 0
 IsTableBindOutcome mode = IsTableBindOutcomeIn (grammar_reading mode)
 
--- The form says parameters, of which one is missing for what stands in the first places, as many as
--- there are names by the head. It is missing for a name that the query doesn't have in the reading.
+-- The form's parameters lack the name that is read in one of the first places. These are as many as
+-- the head has names. The query doesn't have this name in the reading.
 abbrev pub MissesOtherPlaceIn : ReadTemplate → (form : List ℕ) → Type 0
 MissesOtherPlaceIn template form = (given : Given) × (name : List ℕ)
     × IsFormReading form (Ok given)
@@ -142,7 +142,7 @@ abbrev pub UnlessDone : TableOutcome → Type 0 → Type 0
 UnlessDone (AsQuery outcome) P = outcomes.UnlessDone outcome P
 UnlessDone OtherTable P = P
 
--- this number and these fields are those of an outcome of which this holds
+-- this number and these fields are those of an outcome with this property
 abbrev pub IsTold : ℤ → Report → (TableOutcome → Type 0) → Type 0
 IsTold number report P = (outcome : TableOutcome) × (number ≡ pos (number_of outcome))
     × (report ≡ report_of outcome) × P outcome

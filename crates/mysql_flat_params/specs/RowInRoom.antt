@@ -1,4 +1,4 @@
--- Private: what one row leaves in the room.
+-- Private: the room after one row.
 use Rattle.std.specs.Prelude.{◌≡◌, ◌≤◌, ◌<◌, ℕ, List, length, drop}
 use Rattle.mysql_wire_part.specs.Lenenc.{lenenc_spelling, read_lenenc}
 use Rattle.mysql_named_params.specs.Reading.{OnTokensIn}
@@ -10,8 +10,8 @@ use Rattle.mysql_flat_params.specs.IntoRoom.{IsBindOutcomeIn, IsBoundFormIn, IsI
 use Rattle.mysql_flat_params.specs.declared.outcome.Outcome.{Outcome}
 use Rattle.mysql_flat_params.specs.declared.outcome.Outcome.TheVariants.{Done, OutOfMemory, Room}
 
--- the text of a query with what is given to it, as a length-encoded string, is in the room, or the
--- room is too short for it
+-- the text of a query with the parameters that are given to it, as a length-encoded string, is in
+-- the room, or the room is too short for it
 abbrev pub IsStringInRoom : (reading : Reading) (query : List ℕ) → Given → (old new : List ℕ) →
     Outcome → Type 0
 IsStringInRoom reading query given old new outcome = (text : List ℕ)
@@ -28,7 +28,7 @@ IsFormInRoom reading query form old new (Room len) = (text : List ℕ)
 IsFormInRoom reading query form old new outcome = IsBindOutcomeIn reading query form outcome
     × (new ≡ old)
 
--- the same of the form that is the string at the front of these bytes, of which it takes so many
+-- the same for the form that is the string at the front of these bytes, and takes `taken` of them
 abbrev pub IsRowInRoom : (reading : Reading) (query bytes old new : List ℕ) → ℕ → Outcome → Type 0
 IsRowInRoom reading query bytes old new taken (Done len) = (0 < taken) × (taken ≤ length bytes)
     × ((text : List ℕ) × IsBoundRowIn reading query bytes text (drop taken bytes)

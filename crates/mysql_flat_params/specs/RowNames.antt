@@ -1,4 +1,5 @@
--- Private: the names that rows have in common, and where the places of a query have their values.
+-- Private: the names that rows have in common, and the indices of the values for the places of a
+-- query.
 use Rattle.std.specs.Prelude.{◌≡◌, ◌≢◌, ◌<◌, nat_eq, ℕ, Bool, false, List, [], ◌∷◌, map, length, take, get_or, slice_get, None, Some, Ok}
 use Rattle.std.specs.List.{list_any}
 use Rattle.std.specs.Cmp.Lexicographic.{pointwise}
@@ -26,16 +27,16 @@ values_of_pairs pairs = map (λ pair. pair.1) pairs
 abbrev pub is_one_of : List (List ℕ) → List ℕ → Bool
 is_one_of names name = list_any (pointwise nat_eq name) names
 
--- each name is of some bytes, and is none of those before it
+-- each name has some bytes, and differs from those before it
 abbrev pub AreOwnNames : List (List ℕ) → Type 0
 AreOwnNames names = (i : ℕ) → i < length names →
     (get_or names i [] ≢ []) × (is_one_of (take i names) (get_or names i []) ≡ false)
 
--- at the index for each place stands the name that is wanted there
+-- at the index for each place is the name that is wanted there
 abbrev pub AreAtPlaces : List (List ℕ) → (places : List ℕ) → (wanted : List (List ℕ)) → Type 0
 AreAtPlaces names places wanted = map (slice_get names) places ≡ map Some wanted
 
--- at the index for each place stands the pair of its value
+-- at the index for each place is the pair of its value
 abbrev pub AreValuesAt : List (Bor (List ℕ) × ValueRef) → (places : List ℕ) → List ValueRef → Type 0
 AreValuesAt pairs places values = map (slice_get (values_of_pairs pairs)) places ≡ map Some values
 
@@ -47,7 +48,7 @@ pub record AreFoundNames (reading : Reading) (query : List ℕ) (found : FoundNa
   pub at_places : OnTokensIn reading query (λ ts. (mixed_cause ts ≡ None) × (names ts ≢ [])
       × AreAtPlaces (names_of_pairs found.pairs.items) found.places.items (names ts))
 
--- the form says just these pairs
+-- the form has exactly these pairs
 abbrev pub IsFormOfPairs : List ℕ → List (Bor (List ℕ) × ValueRef) → Type 0
 IsFormOfPairs form pairs = IsFormReading form (Ok (named (pair_map pairs)))
 
@@ -58,7 +59,7 @@ IsReadUnder place position name value bytes next = (middle : List ℕ)
     × (read_name place position bytes ≡ Ok (name, middle))
     × (read_value place position middle ≡ Ok (value, next))
 
--- what is given once these pairs are read
+-- the parameters once these pairs are read
 abbrev pub given_so_far : List (Bor (List ℕ) × ValueRef) → Given
 given_so_far [] = empty
 given_so_far (pair ∷ pairs) = named (pair_map (pair ∷ pairs))

@@ -1,4 +1,4 @@
--- What an answer in a caller's room says of the query and the form if steady literals stand in it:
+-- The promises about an answer in a caller's room with steady literals, for the query and the form:
 -- a text for any mode and any server (AnywhereIntoRoom.antt) or for both modes
 -- (BothModesIntoRoom.antt). A query that isn't refused has the same tokens in both modes.
 use Rattle.std.specs.Prelude.{◌≡◌, ℕ, Bool, false, List, length, Option, Some, None, Ok, Err, option_map, ⊤}
@@ -15,38 +15,38 @@ use Rattle.mysql_flat_params.specs.declared.outcome.Outcome.{Outcome}
 use Rattle.mysql_flat_params.specs.declared.outcome.Outcome.TheVariants.{Done, OutOfMemory, Room, FormEnd, FormLengthLead, FormType, FormMixed, FormRepeated, Unsteady, Backslash}
 use Rattle.mysql_flat_params.specs.declared.outcome.Outcome.TheVariants as variant
 
--- the form says parameters
+-- the form has parameters
 abbrev pub IsReadForm : List ℕ → Type 0
 IsReadForm form = (given : Given) × IsFormReading form (Ok given)
 
--- the form says parameters, and this is the text that is bound to them
+-- the form has parameters, and this is the text that is bound to them
 abbrev pub IsSteadyForm : (IsBound : Given → List ℕ → Type 0) (form text : List ℕ) → Type 0
 IsSteadyForm IsBound form text =
     (given : Given) × IsFormReading form (Ok given) × IsBound given text
 
--- the text that is bound to what the form says has this length
+-- the text that is bound to the form's parameters has this length
 abbrev pub HasSteadyLength : (IsBound : Given → List ℕ → Type 0) (form : List ℕ) → ℕ → Type 0
 HasSteadyLength IsBound form len =
     (text : List ℕ) × IsSteadyForm IsBound form text × (length text ≡ len)
 
--- what is told of a construct that isn't portable
+-- the outcome for a construct that isn't portable
 abbrev pub unportable_outcome : Unportable → Outcome
 unportable_outcome found = variant.Unportable (construct_number found.construct) found.at
 
--- what is told of a query that is refused whatever is given to it: what is told of a byte of it, or
--- else of its first construct that isn't portable
+-- the outcome for a query that is refused on its own, with any parameters: the one for a byte of
+-- it, or else the one for its first construct that isn't portable
 abbrev pub query_refusal : Option Outcome → List Token → Option Outcome
 query_refusal byte ts = option_or byte (option_map unportable_outcome (first_unportable ts))
 
--- What an outcome says of the query, by wide names or by those of the grammar, and the form.
--- `IsBound` says which text is bound, and `refusal` what is told of a query with these tokens that
--- is refused whatever is given to it.
+-- The meaning of an outcome, for the query, by wide names or by those of the grammar, and the form.
+-- `IsBound` says which text is bound, and `refusal` gives the outcome for a query with these tokens
+-- that is refused on its own, with any parameters.
 abbrev pub IsSteadyOutcomeIn : (wide : Bool) (IsBound : Given → List ℕ → Type 0)
     (refusal : List Token → Option Outcome) (query form : List ℕ) → Outcome → Type 0
 -- the bound text has this length
 IsSteadyOutcomeIn wide IsBound refusal query form (Done len) = HasSteadyLength IsBound form len
 IsSteadyOutcomeIn wide IsBound refusal query form (Room len) = HasSteadyLength IsBound form len
--- out of memory says nothing
+-- out of memory promises nothing
 IsSteadyOutcomeIn wide IsBound refusal query form OutOfMemory = ⊤
 -- the form is refused for this
 IsSteadyOutcomeIn wide IsBound refusal query form (FormEnd place position) =
@@ -59,7 +59,7 @@ IsSteadyOutcomeIn wide IsBound refusal query form (FormMixed place position) =
     IsFormReading form (Err (mixed_form place position))
 IsSteadyOutcomeIn wide IsBound refusal query form (FormRepeated place position len) =
     IsFormReading form (Err (repeated_name place position len))
--- the form is not refused, and this is told of the query in either mode
+-- the form is not refused, and this is the outcome for the query in either mode
 IsSteadyOutcomeIn wide IsBound refusal query form (Unsteady position) = IsReadForm form
     × ((mode : Bool) → OnTokensIn (reading_with wide mode) query (λ ts.
     refusal ts ≡ Some (Unsteady position)))
@@ -69,7 +69,7 @@ IsSteadyOutcomeIn wide IsBound refusal query form (variant.Unportable number pos
 IsSteadyOutcomeIn wide IsBound refusal query form (Backslash position) = IsReadForm form
     × ((mode : Bool) → OnTokensIn (reading_with wide mode) query (λ ts.
     refusal ts ≡ Some (Backslash position)))
--- nothing is told of the query, and the outcome is that of binding in a mode, in either
+-- the query isn't refused on its own, and in either mode the outcome is that of binding in the mode
 IsSteadyOutcomeIn wide IsBound refusal query form outcome =
     ((mode : Bool) → OnTokensIn (reading_with wide mode) query (λ ts. refusal ts ≡ None))
     × ((mode : Bool) → IsBindOutcomeIn (reading_with wide mode) query form outcome)

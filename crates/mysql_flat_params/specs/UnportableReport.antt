@@ -29,12 +29,12 @@ construct_number ZeroByte = 18
 construct_number EscapedBackquote = 19
 construct_number ReturnInComment = 20
 
--- the number of what was found: 0 if nothing was
+-- the number of the construct that was found: 0 if none was
 abbrev pub unportable_number : Option Unportable → ℕ
 unportable_number None = 0
 unportable_number (Some found) = construct_number found.construct
 
--- the fields of what was found: its position
+-- the fields for the construct that was found: its position
 abbrev pub unportable_report : Option Unportable → Report
 unportable_report None = no_fields
 unportable_report (Some found) = record no_fields { position = found.at }

@@ -1,6 +1,6 @@
--- What an answer in a caller's room says of a query with wide names and the form if it is a text
--- for any mode and any server, or for both modes and any server. Portable is the query with its
--- names in lower case.
+-- The promises about an answer in a caller's room that is a text for any mode and any server, or
+-- for both modes and any server, for a query with wide names and the form. The query with its names
+-- in lower case has to be portable.
 use Rattle.std.specs.Prelude.{ℕ, Bool, true, false, List, Option, option_map}
 use Rattle.mysql_named_params.specs.LoweredNames.{have_capitals, lower_names}
 use Rattle.mysql_named_params.specs.NamesAndMarks.{names}
@@ -20,49 +20,49 @@ abbrev pub portable_tokens : (wide : Bool) → List Token → List Token
 portable_tokens false ts = ts
 portable_tokens true ts = lower_names ts
 
--- the query is copied to be asked whether it is portable
+-- the query is copied for the test whether it is portable
 abbrev pub is_copied : (wide : Bool) → List Token → Bool
 is_copied false ts = false
 is_copied true ts = have_capitals (names ts)
 
 -- ---- for any mode and any server
 
--- this is the query bound to what is given to it
+-- this is the query bound to the parameters that are given to it
 abbrev pub IsWideBoundAnywhere : List ℕ → Given → List ℕ → Type 0
 IsWideBoundAnywhere query given text =
     (mode : Bool) → OnWideTokens mode query (λ ts. IsWideAnywhereText ts given text)
 
--- the form says parameters, and this is the query bound to them
+-- the form has parameters, and this is the query bound to them
 abbrev pub IsWideAnywhereForm : (query form text : List ℕ) → Type 0
 IsWideAnywhereForm query = IsSteadyForm (IsWideBoundAnywhere query)
 
--- what is told of a query that is refused whatever is given to it
+-- the outcome for a query that is refused on its own, with any parameters
 abbrev pub wide_anywhere_refusal : List ℕ → List Token → Option Outcome
 wide_anywhere_refusal query ts =
     query_refusal (option_map Unsteady (first_unsteady query)) (lower_names ts)
 
--- what an outcome says of the query and the form
+-- the meaning of an outcome, for the query and the form
 abbrev pub IsWideAnywhereOutcome : (query form : List ℕ) → Outcome → Type 0
 IsWideAnywhereOutcome query =
     IsSteadyOutcomeIn true (IsWideBoundAnywhere query) (wide_anywhere_refusal query) query
 
 -- ---- for both modes and any server
 
--- this is the query bound to what is given to it
+-- this is the query bound to the parameters that are given to it
 abbrev pub IsWideBoundInBothModes : List ℕ → Given → List ℕ → Type 0
 IsWideBoundInBothModes query given text =
     (mode : Bool) → OnWideTokens mode query (λ ts. IsWideTextInBothModes ts given text)
 
--- the form says parameters, and this is the query bound to them
+-- the form has parameters, and this is the query bound to them
 abbrev pub IsWideBothModesForm : (query form text : List ℕ) → Type 0
 IsWideBothModesForm query = IsSteadyForm (IsWideBoundInBothModes query)
 
--- what is told of a query that is refused whatever is given to it
+-- the outcome for a query that is refused on its own, with any parameters
 abbrev pub wide_both_modes_refusal : List Token → Option Outcome
 wide_both_modes_refusal ts =
     query_refusal (option_map Backslash (first_backslash ts)) (lower_names ts)
 
--- what an outcome says of the query and the form
+-- the meaning of an outcome, for the query and the form
 abbrev pub IsWideBothModesOutcome : (query form : List ℕ) → Outcome → Type 0
 IsWideBothModesOutcome query =
     IsSteadyOutcomeIn true (IsWideBoundInBothModes query) wide_both_modes_refusal query
