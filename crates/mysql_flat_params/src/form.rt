@@ -23,10 +23,11 @@ use std::collections::HashMap;
 // The flag of a parameter whose whole numbers have no sign.
 const UNSIGNED: u8 = 128;
 
-// The bytes of the shortest parameter: that of its name's length, its type and its flags.
+// The number of bytes of the shortest parameter: one each for its name's length, its type and its
+// flags.
 const LEAST_PARAMETER: usize = 3;
 
-// For so many values after the first there is room at once.
+// Memory is reserved at once for up to this number of values after the first.
 const MANY_VALUES: usize = 63;
 
 /// The place of a parameter in the form.
@@ -145,8 +146,8 @@ fn positional_params<'f, M: FormNames<'f>>(
     Ok(FormParams::Positional(values))
 }
 
-// The first value in the spare list, where at most so many follow it: a few of them ask for no more
-// memory.
+// The first value in the spare list. At most `most` values follow it, and memory for a few of these
+// is reserved.
 fn first_value<'f>(
     first: ValueRef<'f>,
     most: usize,
@@ -247,7 +248,7 @@ fn insert_parameter<'f, M: FormNames<'f>>(
     Ok(())
 }
 
-// Why a name, which stands at this index, is refused after parameters by name.
+// The refusal of a name, which is at this index, after parameters by name.
 fn name_error<'f, M: FormNames<'f>>(
     spot: Spot,
     at: usize,
@@ -281,7 +282,7 @@ pub(crate) fn eat_name<'a>(spot: Spot, rest: &mut ParseBuf<'a>) -> Result<&'a [u
     ensures within { IfOk result (λ name.
         length name.now + length (left rest.new) < length (left rest.old)) }
 {
-    // The error gets the parameter that it is of.
+    // The error gets the place of its parameter.
     match rest.eat_lenenc_str() {
         Ok(name) => Ok(name),
         Err(error) => Err(form_error(spot, 0, error)),
@@ -322,14 +323,14 @@ pub(crate) fn eat_value_ref<'f>(
             number,
         });
     };
-    // The error gets the parameter that it is of.
+    // The error gets the place of its parameter.
     match read_binary_value(column, column_flags(flags), rest) {
         Ok(value) => Ok(value),
         Err(error) => Err(form_error(spot, number, error)),
     }
 }
 
-// The flags of a column that say the same as the flags of a parameter.
+// The flags of a column with the same meaning as the flags of a parameter.
 fn column_flags(flags: u8) -> ColumnFlags
     ensures { is_unsigned result ≡ is_unsigned_parameter flags }
 {

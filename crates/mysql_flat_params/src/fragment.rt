@@ -88,7 +88,7 @@ fn eat_fragment_of(
     }
 }
 
-// The fragment that a value says.
+// The fragment of a value: a finite float or double is a double.
 fn fragment_of(alloc: Global, value: ValueRef<'_>) -> Result<Fragment, AllocError>
     ensures { IfOk result (λ fragment.
         content_of fragment ≡ fragment_of_value (owned value.entry)) }
@@ -99,7 +99,7 @@ fn fragment_of(alloc: Global, value: ValueRef<'_>) -> Result<Fragment, AllocErro
     }
 }
 
-// The keyword at the front; one of no bytes if its text is none of those that a form may have.
+// The keyword at the front; empty if its text isn't one that a form may have.
 fn eat_keyword(alloc: Global, spot: Spot, rest: &mut ParseBuf<'_>) -> Result<Keyword, FormError>
     ensures { IsAnswer (λ keyword. (keyword.word.items, left rest.new)) form_refusal
         (read_keyword spot.place spot.position (left rest.old)) ⊤ result }

@@ -23,7 +23,7 @@ use mysql_values::value::ValueRef;
 use mysql_wire_part::ParseBuf;
 use std::alloc::{AllocError, Global};
 
-// The bytes of the shortest item: its type and its flags.
+// The number of bytes of the shortest item: its type and its flags.
 const LEAST_ITEM: usize = 2;
 
 /// A fragment of a form. Values stay in the form, also those of a list or of rows. Every other
@@ -87,7 +87,7 @@ pub(crate) fn eat_in_place<'f>(
     }
 }
 
-// A value that is no item, kept: of a finite double its number.
+// A value that isn't an item, kept: for a finite double its number.
 fn kept_value(value: ValueRef<'_>) -> FragmentInPlace<'_>
     ensures { (said : said_fragment.Fragment) × IsKeptAs result said
         × (content_of said ≡ fragment_of_value (owned value.entry)) }
@@ -98,7 +98,7 @@ fn kept_value(value: ValueRef<'_>) -> FragmentInPlace<'_>
     }
 }
 
-// The list or the rows of this type, if they are of values only, and of one length.
+// The list or the rows of this type, if they have only values, and the rows one length.
 fn eat_values_of<'f>(
     alloc: Global,
     spot: Spot,
@@ -124,7 +124,7 @@ fn eat_values_of<'f>(
     }
 }
 
-// The items at the front, if all are values that are read.
+// The items at the front, if all are values that can be read.
 fn eat_list<'f>(
     alloc: Global,
     spot: Spot,
@@ -145,7 +145,7 @@ fn eat_list<'f>(
     }
 }
 
-// The rows at the front, if all items are values that are read, and the rows are of one length.
+// The rows at the front, if all items are values that can be read, and all rows have one length.
 fn eat_rows_of_values<'f>(
     alloc: Global,
     spot: Spot,
@@ -180,7 +180,8 @@ fn eat_rows_of_values<'f>(
     }))
 }
 
-// No cells, with room for so many, if as many items can stand in the bytes.
+// An empty list of cells, with memory for `count` cells, or for as many items as the bytes can hold
+// if these are fewer.
 fn cells_for<'f>(alloc: Global, count: u64, bytes: usize) -> Result<Vec<ValueRef<'f>>, AllocError>
     ensures { IfOk result (λ cells. cells.items ≡ []) }
 {
@@ -193,8 +194,8 @@ fn cells_for<'f>(alloc: Global, count: u64, bytes: usize) -> Result<Vec<ValueRef
     Vec::with_capacity(alloc, room)
 }
 
-// Appends the items of the row at the front to the cells, and tells whether the row is of this
-// length, and all are values that are read.
+// Appends the items of the row at the front to the cells. It returns whether the row has this
+// length, and all items are values that can be read.
 fn eat_row<'f>(
     spot: Spot,
     width: u32,
@@ -218,7 +219,7 @@ fn eat_row<'f>(
     }
 }
 
-// Appends so many items to the cells, and tells whether all are values that are read.
+// Appends `count` items to the cells. It returns whether all are values that can be read.
 fn eat_values<'f>(
     spot: Spot,
     count: u32,
@@ -241,7 +242,7 @@ fn eat_values<'f>(
     Ok(true)
 }
 
-// The item at the front, if it is a value that is read, and no finite double.
+// The item at the front, if it is a value that can be read, and not a finite float or double.
 fn eat_value_item<'f>(spot: Spot, rest: &mut ParseBuf<'f>) -> Option<ValueRef<'f>>
     ensures { IfSome result (λ value. read_item spot.place spot.position (left rest.old)
         ≡ Ok (value_item (owned value), left rest.new)) }

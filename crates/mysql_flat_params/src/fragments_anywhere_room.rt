@@ -108,8 +108,8 @@ fn bind_form_anywhere(
     }
 }
 
-// The query, which is steady and so has the same tokens in both modes, with what is kept of a form
-// in its places, at the front of the room.
+// The query with the kept fragments of a form in its places, at the front of the room. The query is
+// steady, so it has the same tokens in both modes.
 fn bind_kept_steady(
     alloc: Global,
     query: &[u8],
@@ -147,7 +147,7 @@ fn bind_kept_steady(
     }
 }
 
-// A refusal of fragments for a query that is steady and portable.
+// The outcome for an error of fragments, for a query that is steady and portable.
 fn steady_outcome(query: &[u8], error: SteadyFragmentsError, wide_names: bool) -> FragmentsOutcome
     requires taken { IsTakenQueryIn wide_names query.now }
     requires error { (given : GivenFragments) × ((mode : Bool) →

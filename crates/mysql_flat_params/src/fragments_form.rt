@@ -83,7 +83,7 @@ fn eat_parameter<'a>(
     Ok((name, fragment))
 }
 
-// Why a name, which stands at this index, is refused after these fragments.
+// The refusal of a name, which is at this index, after these fragments.
 fn name_error(spot: Spot, at: usize, fragments: &Fragments, name: &[u8]) -> Option<FormError>
     ensures refusal { option_and_then form_refusal result
         ≡ name_refusal spot.place spot.position at (given_fragments fragments.now) name.now }

@@ -77,7 +77,7 @@ fn eat_parameter<'f>(
     Ok((name, fragment))
 }
 
-// Why a name, which stands at this index, is refused after what is kept.
+// The refusal of a name, which is at this index, after the kept fragments.
 fn name_error(spot: Spot, at: usize, kept: &FormInPlace<'_>, name: &[u8]) -> Option<FormError>
     ensures refusal { (given : GivenFragments) → IsGivenAs kept.now given →
         option_and_then form_refusal result
@@ -120,7 +120,7 @@ fn has_name(entries: &BTreeMap<&[u8], FragmentInPlace<'_>>, name: &[u8]) -> bool
     BTreeMap::get(entries, name).is_some()
 }
 
-// Keeps a fragment under its name, or behind those before it if it has none.
+// Keeps a fragment under its name, or appends it if it has none.
 fn keep<'f>(
     alloc: Global,
     kept: &mut FormInPlace<'f>,

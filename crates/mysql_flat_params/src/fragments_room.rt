@@ -97,7 +97,7 @@ pub fn bind_fragments_into_read(
     }
 }
 
-// The query with what is kept of a form in its places, at the front of the room.
+// The query with the kept fragments of a form in its places, at the front of the room.
 fn bind_kept(
     alloc: Global,
     query: &[u8],
@@ -174,7 +174,7 @@ pub(crate) fn fragments_outcome(
     })
 }
 
-// The refusal of a name of this query that has no fragment.
+// The outcome for a name of this query that has no fragment.
 fn missing_outcome(query: &[u8], name: &[u8], reading: Reading) -> Outcome
     requires { OnTokensIn reading query.now (λ ts. Contains (names ts) name.now) }
     ensures { IsMissingNameIn reading query.now name.now result }

@@ -110,7 +110,7 @@ pub fn bind_into_read(
     }
 }
 
-// The text of a query with what a form says, at the front of the room.
+// The text of a query with a form's parameters, at the front of the room.
 fn bind_params(
     alloc: Global,
     query: &[u8],
@@ -138,7 +138,7 @@ fn bind_params(
     bind_surveyed_into(alloc, &surveyed, borrowed, &form, room)
 }
 
-// What is told of a text in a room.
+// The outcome for a text in a room.
 pub(crate) fn text_outcome(text: TextInRoom) -> Outcome
     ensures { result ≡ text_outcome text }
 {
@@ -151,7 +151,7 @@ pub(crate) fn text_outcome(text: TextInRoom) -> Outcome
 /// The parameters of a form, kept in the form's own bytes.
 pub(crate) type ParamsInPlace<'f> = FormParams<'f, NamesInPlace<'f>>;
 
-// The pairs in which names are kept, for `borrowed_params`; none if they are kept otherwise.
+// The pairs in which names are kept, for `borrowed_params`; empty if they are kept in another way.
 pub(crate) fn named_pairs<'p, 'f>(params: &'p ParamsInPlace<'f>) -> NamedPairs<'p>
     ensures { result.0.now ≡ pairs_in_place params.now }
 {
@@ -177,7 +177,7 @@ pub(crate) fn borrowed_params<'p, 'f>(
     }
 }
 
-// A refusal of a form.
+// The outcome for an error of a form.
 pub(crate) fn form_outcome(error: FormError) -> Outcome
     ensures outcome { (reading : Reading) (query form : List ℕ) → IsFormRefusal form error →
         IsBindOutcomeIn reading query form result }
@@ -225,7 +225,7 @@ pub(crate) fn form_outcome(error: FormError) -> Outcome
     }
 }
 
-// A refusal of binding to this query.
+// The outcome for an error of binding to this query.
 pub(crate) fn bind_outcome(query: &[u8], error: BindError, reading: Reading) -> Outcome
     requires { (given : Given) × OnTokensIn reading query.now (λ ts.
         IsCauseOrMemory (first_cause ts given) error) }
@@ -242,7 +242,8 @@ pub(crate) fn bind_outcome(query: &[u8], error: BindError, reading: Reading) -> 
     }
 }
 
-// What is told of a refusal by this query; none if it misses a name that the query doesn't have.
+// The outcome for an error of binding to this query; `None` if the missing name isn't one of the
+// query.
 pub(crate) fn told_outcome(query: &[u8], error: BindError, reading: Reading) -> Option<Outcome>
     ensures outcome { (form : List ℕ) (given : Given) → IsFormReading form (Ok given) →
         OnTokensIn reading query.now (λ ts.
@@ -276,7 +277,7 @@ pub(crate) fn told_outcome(query: &[u8], error: BindError, reading: Reading) -> 
     }
 }
 
-// The refusal of a name that has no value; none if the query doesn't have it.
+// The outcome for a name without a value; `None` if the query doesn't have the name.
 fn missing_outcome(query: &[u8], name: &[u8], reading: Reading) -> Option<Outcome>
     ensures some { IfSome result (IsMissingNameIn reading query.now name.now) }
     ensures none { result ≡ None →

@@ -126,7 +126,7 @@ fn eat_item_of(
     }
 }
 
-// The item that a value says.
+// The item of a value: a finite float or double is a double.
 fn item_of(alloc: Global, value: ValueRef<'_>) -> Result<Item, AllocError>
     ensures { IfOk result (λ item. item_content item ≡ item_of_value (owned value.entry)) }
 {

@@ -47,7 +47,7 @@ pub(crate) fn listed_keyword(text: &[u8]) -> &'static [u8]
     word_of(&KEYWORDS, text)
 }
 
-// The first of these words that is the text; no bytes if none is.
+// The first of these words that is the text; empty if none is.
 fn word_of(words: &[&'static [u8]], text: &[u8]) -> &'static [u8]
     ensures { result.now ≡ word_of (referents words.now) text.now }
 {

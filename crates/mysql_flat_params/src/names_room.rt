@@ -143,7 +143,7 @@ fn gathered_names(
 }
 
 // Writes a text, as a length-encoded string, and then a row to the front of the room, if the room
-// is long enough. Out of memory if no room is so long.
+// is long enough. Out of memory if no room can be that long.
 fn both_in_room(text: &[u8], row: &[u8], room: &mut [u8]) -> Outcome
     ensures { IsInRoomOrMemory (lenenc_spelling text.now ++ row.now) room.old room.new result }
 {
@@ -168,7 +168,7 @@ fn fill_both(text: &[u8], row: &[u8], slice: &mut [u8])
     back.copy_from_slice(row);
 }
 
-// What is known of the names of a query before a byte is written.
+// The facts about the names of a query before a byte is written.
 #[derive(Clone, Copy)]
 struct NamesSurvey {
     // The number of names, with repeats.
@@ -181,8 +181,8 @@ struct NamesSurvey {
     row_len: usize,
 }
 
-// The survey of a query. A name, with its colon, has at least two bytes, and takes at most half as
-// many again in the answer.
+// The survey of a query. A name, with its colon, has at least two bytes, and takes at most one and
+// a half times as many in the answer.
 fn names_survey(query: &[u8], reading: Reading) -> NamesSurvey
     ensures survey { OnTokensIn reading query.now (IsNamesSurvey result) }
     ensures marked { result.marked_len ≤ length query.now }
@@ -255,8 +255,8 @@ fn fill_answer(query: &[u8], survey: NamesSurvey, reading: Reading, slice: &mut 
     }
     let end = marked_end(query, survey);
     let (marked, row) = slice.split_at_mut(end);
-    // The length of the query with marks is that of this front of the query, whose bytes are then
-    // written over.
+    // The front of the query, which is written here, has the length of the query with marks. Its
+    // bytes are then overwritten.
     fill_lenenc_str(marked, &query[..survey.marked_len]);
     let (_, text) = marked.split_at_mut(end - survey.marked_len);
     fill_names(query, reading, text, row);
@@ -287,8 +287,8 @@ fn fill_names(query: &[u8], reading: Reading, text: &mut [u8], row: &mut [u8])
     append_bytes(text, text_at, rest);
 }
 
-// Copies the bytes into the slice from this index on, and returns the index after them. What stands
-// before them is kept.
+// Copies the bytes into the slice from index `at` on, and returns the index after them. The bytes
+// before `at` are kept.
 fn append_bytes(slice: &mut [u8], at: usize, bytes: &[u8]) -> usize
     requires { at + length bytes.now ≤ length slice.old }
     ensures next { result ≡ at + length bytes.now }
@@ -299,8 +299,8 @@ fn append_bytes(slice: &mut [u8], at: usize, bytes: &[u8]) -> usize
     end
 }
 
-// Writes a mark into the slice at this index, and returns the index after it. What stands before it
-// is kept.
+// Writes a mark into the slice at index `at`, and returns the index after it. The bytes before `at`
+// are kept.
 fn append_mark(slice: &mut [u8], at: usize) -> usize
     requires { at < length slice.old }
     ensures next { result ≡ at + 1 }
@@ -310,8 +310,8 @@ fn append_mark(slice: &mut [u8], at: usize) -> usize
     at + 1
 }
 
-// Writes the bytes as a length-encoded string into the slice from this index on, and returns the
-// index after it. What stands before it is kept.
+// Writes the bytes as a length-encoded string into the slice from index `at` on, and returns the
+// index after it. The bytes before `at` are kept.
 fn append_lenenc_str(slice: &mut [u8], at: usize, bytes: &[u8]) -> usize
     requires { at + length (lenenc_spelling bytes.now) ≤ length slice.old }
     ensures next { result ≡ at + length (lenenc_spelling bytes.now) }

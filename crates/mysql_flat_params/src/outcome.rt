@@ -146,7 +146,7 @@ pub(crate) const NO_FIELDS: Report = Report {
     byte: 0,
 };
 
-// The fields of an outcome that tells a place and a position.
+// The fields of an outcome with a place and a position.
 fn spot_fields(len: usize, place: usize, position: usize, byte: u8) -> Report
     ensures { result ≡ record no_fields {
       len = len;

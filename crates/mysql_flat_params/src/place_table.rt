@@ -168,7 +168,7 @@ pub fn table_into_read(
     }
 }
 
-// The head that says this of the places.
+// The head of a table with this survey.
 fn head_of(survey: Survey) -> TableHead
     ensures { survey_of result ≡ survey }
 {
@@ -186,7 +186,7 @@ fn head_of(survey: Survey) -> TableHead
     }
 }
 
-// What the head says of the places.
+// The survey in the head of a table.
 fn survey_of(head: TableHead) -> Survey
     ensures { result ≡ survey_of head }
 {
@@ -228,10 +228,10 @@ pub fn bind_by_table_into(
         IsBoundForm template.now.no_backslash_escape template.now.query.now form.now
         (take len room.new)) }
 
-    // A table that the query can't have by its numbers is told before the form is read.
+    // A table that the query can't have by its numbers is refused before the form is read.
     ensures unfit { (CanHaveTable template.now → ⊥) → result ≡ TableOutcome.OtherTable }
 
-    // One that it can have is told only if what is missing is no name of the query.
+    // A table that it can have is refused only if the missing name isn't a name of the query.
     ensures other { result ≡ TableOutcome.OtherTable → CanHaveTable template.now →
         MissesOtherPlace template.now form.now }
 
@@ -276,10 +276,10 @@ pub fn bind_by_table_into_read(
         IsBoundFormIn template.now.reading template.now.query.now form.now
         (take len room.new)) }
 
-    // A table that the query can't have by its numbers is told before the form is read.
+    // A table that the query can't have by its numbers is refused before the form is read.
     ensures unfit { (CanHaveTableIn template.now → ⊥) → result ≡ TableOutcome.OtherTable }
 
-    // One that it can have is told only if what is missing is no name of the query.
+    // A table that it can have is refused only if the missing name isn't a name of the query.
     ensures other { result ≡ TableOutcome.OtherTable → CanHaveTableIn template.now →
         MissesOtherPlaceIn template.now form.now }
 
@@ -310,7 +310,7 @@ pub fn bind_by_table_into_read(
     }
 }
 
-// The text of a query with what a form says, at the front of the room.
+// The text of a query with a form's parameters, at the front of the room.
 fn bind_places(
     alloc: Global,
     spanned: &SpannedQuery<'_>,
@@ -341,8 +341,8 @@ fn bind_places(
     bind_spans_into(alloc, spanned, borrowed, &form, room)
 }
 
-// A refusal of binding by a table; if it misses a name that the query doesn't have, the table is
-// that of another one.
+// The outcome for an error of binding by a table. If the missing name isn't one of the query, the
+// table is that of another query.
 fn table_outcome(query: &[u8], error: BindError, reading: Reading) -> TableOutcome
     ensures outcome { (form : List ℕ) (given : Given) → IsFormReading form (Ok given) →
         OnTokensIn reading query.now (λ ts.

@@ -19,7 +19,7 @@ use mysql_wire_part::ParseBuf;
 use std::alloc::Global;
 use std::collections::BTreeMap;
 
-// In how many rows names are looked for before any were found again.
+// The number of rows in which names are looked for before any were found again.
 const FIRST_TRIES: u8 = 8;
 
 // Names in the order of a form, each with a value.
@@ -80,7 +80,7 @@ impl<'f> FoundNames<'f> {
     }
 }
 
-// For each place the value of the pair at its index, in the memory of the spare list. None if
+// For each place the value of the pair at its index, in the memory of the spare list. `None` if
 // memory is refused.
 fn values_at<'f>(
     pairs: &[(&'f [u8], ValueRef<'f>)],
@@ -189,7 +189,7 @@ impl<'f> RowMemory<'f> {
 }
 
 // Reads the values of a form into the pairs, if its names are those of the pairs, byte for byte and
-// in their order. Otherwise it is false, and the names have other values.
+// in their order. Otherwise it returns false, and some values may have changed.
 fn read_under<'f>(form: &'f [u8], pairs: &mut [(&'f [u8], ValueRef<'f>)]) -> bool
     requires some { 0 < length pairs.old }
     requires own { AreOwnNames (names_of_pairs pairs.old) }
@@ -229,8 +229,8 @@ fn value_under<'f>(spot: Spot, name: &[u8], rest: &mut ParseBuf<'f>) -> Option<V
 }
 
 // The names of a form by name in its order, and the same in a sorted map if there are more than a
-// few. Each has its number, from 0, for a value. None if a name has no bytes or stands twice, if
-// the form is not read, or if memory is refused.
+// few. Each has its number, from 0, as its value. `None` if a name is empty or comes twice, if the
+// form is refused, or if memory is refused.
 fn numbered_names<'f>(alloc: Global, form: &'f [u8]) -> Option<(NamePairs<'f>, SortedNames<'f>)>
     ensures { IfSome result (λ found. (0 < length found.0.items)
         × AreOwnNames (names_of_pairs found.0.items)) }
@@ -251,7 +251,7 @@ fn numbered_names<'f>(alloc: Global, form: &'f [u8]) -> Option<(NamePairs<'f>, S
     Some((pairs, sorted))
 }
 
-// Gives a name the next number. None if it has one, or if memory is refused.
+// Gives a name the next number. `None` if it has one, or if memory is refused.
 fn append_number<'f>(
     alloc: Global,
     pairs: &mut NamePairs<'f>,
@@ -280,7 +280,7 @@ fn append_number<'f>(
     Some(())
 }
 
-// The same of names that are in a sorted map too.
+// The same for names that are in a sorted map too.
 fn append_sorted<'f>(
     entries: &mut BTreeMap<&'f [u8], ValueRef<'f>>,
     pairs: &mut NamePairs<'f>,
@@ -307,7 +307,7 @@ fn append_sorted<'f>(
     }
 }
 
-// The same of names that a walk finds.
+// The same for names in a list that is searched in order.
 fn append_few<'f>(pairs: &mut NamePairs<'f>, name: &'f [u8]) -> Option<()>
     requires some { name.now ≢ [] }
     requires own { AreOwnNames (names_of_pairs pairs.old.items) }
@@ -324,7 +324,8 @@ fn append_few<'f>(pairs: &mut NamePairs<'f>, name: &'f [u8]) -> Option<()>
     }
 }
 
-// The name of the next parameter, which is passed over. None if it has no bytes, or is not read.
+// The name of the next parameter, whose value is skipped. `None` if the name is empty, or the
+// parameter can't be read.
 fn next_name<'f>(rest: &mut ParseBuf<'f>) -> Option<&'f [u8]>
     ensures some { IfSome result (λ name. name.now ≢ []) }
     ensures fewer { OnSome result (length (left rest.new) < length (left rest.old)) }
@@ -345,8 +346,8 @@ fn next_name<'f>(rest: &mut ParseBuf<'f>) -> Option<&'f [u8]>
     }
 }
 
-// For each name of a query without both names and marks, the index of its pair. None if a name has
-// none, or if memory is refused.
+// For each name of a query without both names and marks, the index of its pair. `None` if a name
+// has none, or if memory is refused.
 fn numbers_of_places(
     alloc: Global,
     surveyed: &SurveyedQuery<'_>,
@@ -396,7 +397,7 @@ fn number_of(
     if found == name { Some(number) } else { None }
 }
 
-// The number that a name has for a value.
+// The number that a name has as its value.
 fn number_in<M: NamedValues>(numbers: &M, name: &[u8]) -> Option<usize>
     ensures { IfSome result (λ number. get (M.values numbers.now) name.now ≡ Some (UInt number)) }
 {

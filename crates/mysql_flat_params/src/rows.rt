@@ -117,7 +117,7 @@ pub fn bind_rows_into_read(
     }
 }
 
-// Binds row after row to a query that is surveyed.
+// Binds row after row to a surveyed query.
 fn bind_rows(
     alloc: Global,
     surveyed: &SurveyedQuery<'_>,
@@ -172,7 +172,8 @@ fn bind_rows(
 }
 
 // Binds the row whose form is the string at the front of the forms, and writes its text to the
-// front of the room. The number is that of the form's bytes as a string, if the text is written.
+// front of the room. The number is the length of the form as a length-encoded string, if the text
+// is written.
 fn bind_row<'f>(
     alloc: Global,
     surveyed: &SurveyedQuery<'_>,
@@ -201,7 +202,8 @@ fn bind_row<'f>(
     (outcome, forms.len() - rest.len())
 }
 
-// Binds what a form says, and writes the text to the front of the room, as a length-encoded string.
+// Binds a form's parameters, and writes the text to the front of the room, as a length-encoded
+// string.
 fn bind_form<'f>(
     alloc: Global,
     surveyed: &SurveyedQuery<'_>,
@@ -222,7 +224,7 @@ fn bind_form<'f>(
     bind_found(alloc, surveyed, found, memory, room)
 }
 
-// Binds the values of a form whose names are found.
+// Binds the values of a form whose names were found.
 fn bind_found<'f>(
     alloc: Global,
     surveyed: &SurveyedQuery<'_>,
@@ -258,7 +260,8 @@ fn bind_found<'f>(
     outcome
 }
 
-// Binds what any form says. The spare list lends its memory, and has it again afterwards.
+// Binds the parameters of any form. The memory of the spare list is used, and given back
+// afterwards.
 fn bind_other<'f>(
     alloc: Global,
     surveyed: &SurveyedQuery<'_>,
@@ -288,7 +291,7 @@ fn spare_values<'f>(alloc: Global, params: ParamsInPlace<'f>) -> Vec<ValueRef<'f
     }
 }
 
-// The same with what a form says.
+// Binds the parameters that were read from a form.
 fn bind_read(
     alloc: Global,
     surveyed: &SurveyedQuery<'_>,
@@ -309,8 +312,8 @@ fn bind_read(
     }
 }
 
-// Writes the text of a query that is measured, as a length-encoded string, to the front of the
-// room, if the room is long enough.
+// Writes the text of a measured query, as a length-encoded string, to the front of the room, if the
+// room is long enough.
 fn fill_string(
     surveyed: &SurveyedQuery<'_>,
     measured: &MeasuredText<'_>,
@@ -337,7 +340,7 @@ fn fill_string(
     Outcome::Done { len }
 }
 
-// What stands before a string of this length, at the front of the array, and how many bytes it has.
+// The length prefix of a string of this length, at the front of the array, and its number of bytes.
 fn length_lead(len: u64) -> ([u8; 9], usize)
     ensures few { result.1 ≤ 9 }
     ensures spelled { take result.1 result.0 ≡ length_spelling len }
@@ -363,7 +366,7 @@ fn length_lead(len: u64) -> ([u8; 9], usize)
     (lead, 9)
 }
 
-// What is told of a row whose form isn't a length-encoded string.
+// The outcome for a row whose form isn't a length-encoded string.
 fn unread_row(error: WireError) -> Outcome
     ensures { IfSome (read_refusal error) (λ refusal. result ≡ unread_row refusal) }
 {

@@ -43,7 +43,7 @@ use mysql_steady_text::SteadyForm;
 use mysql_steady_text::first_backslash::first_backslash;
 use std::alloc::{AllocError, Global};
 
-// What each call is.
+// The text and the names of each call.
 const ANYWHERE: SteadyCall = SteadyCall {
     steadiness: Steadiness::Anywhere,
     wide_names: false,
@@ -288,14 +288,14 @@ pub(crate) fn query_refusal(
         (byte_refusal call.steadiness query.now ts ≡ None)
         × (is_copied call.wide_names ts ≡ true))) }
 {
-    // One walk passes most queries of ASCII, with capitals or without.
+    // Most queries of ASCII pass in one walk, with capitals or without.
     if is_clear(query) {
         return Ok(None);
     }
     refusal_by_walks(alloc, query, call)
 }
 
-// The same by a walk over its bytes and one over its tokens.
+// The same refusal, by a walk over the bytes and one over the tokens of the query.
 fn refusal_by_walks(
     alloc: Global,
     query: &[u8],
@@ -318,7 +318,7 @@ fn refusal_by_walks(
     Ok(unportable_outcome(found))
 }
 
-// What is told of a construct, if one was found.
+// The outcome for a construct, if one was found.
 fn unportable_outcome(found: Option<Unportable>) -> Option<Outcome>
     ensures { result ≡ option_map unportable_outcome found }
 {
@@ -368,7 +368,7 @@ fn byte_refusal(query: &[u8], steadiness: Steadiness) -> Option<Outcome>
     }
 }
 
-// The text of a query with the steady literals of what a form says, at the front of the room.
+// The text of a query with the steady literals of a form's parameters, at the front of the room.
 fn bind_params_steady(
     alloc: Global,
     query: &[u8],

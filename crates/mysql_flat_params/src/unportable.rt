@@ -106,7 +106,7 @@ pub fn report_first_unportable_in_client_wide(
     }
 }
 
-// The number that tells that memory was refused, and a report of zeros.
+// The number for refused memory, and a report of zeros.
 fn out_of_memory(report: &mut Report) -> i32
     ensures number { result ≡ negsuc 0 }
     ensures report { report.new ≡ unportable_report None }
@@ -115,7 +115,7 @@ fn out_of_memory(report: &mut Report) -> i32
     -1
 }
 
-// The number of what was found, and its report.
+// The number of the construct that was found, and its report; 0 and zeros if none was.
 fn number_and_report(found: Option<Unportable>, report: &mut Report) -> i32
     ensures number { result ≡ pos (unportable_number found) }
     ensures report { report.new ≡ unportable_report found }

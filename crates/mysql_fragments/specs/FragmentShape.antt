@@ -31,7 +31,7 @@ pub data IsFragment (mode : Bool) : ℕ → List ℕ → Type 0 where
   identifier_fragment : (text : List ℕ) → IsIdentifier text → IsFragment mode 0 text
   -- a keyword
   keyword_fragment : (text : List ℕ) → IsTrue (is_keyword text) → IsFragment mode 0 text
-  -- an assignment: a column, ` = ` and what it is set to
+  -- an assignment: a column, ` = ` and the item that it is set to
   assignment_fragment : (n : ℕ) (column value : List ℕ) → IsIdentifier column →
       IsFragment mode n value → IsFragment mode n (column ++ (codes " = " ++ value))
   -- one after another, with `, ` between them

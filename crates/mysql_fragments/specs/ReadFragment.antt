@@ -18,8 +18,8 @@ is_backquote b = b == byte "`"
 abbrev pub with_byte : ℕ → Option (List ℕ × List ℕ) → Option (List ℕ × List ℕ)
 with_byte b read = option_map (λ r. (b ∷ r.0, r.1)) read
 
--- The name after an opening backquote, up to a backquote that no backquote follows, and what
--- follows that; none if no backquote ends it. Two backquotes in a row are one.
+-- The name after an opening backquote, up to a backquote that no backquote follows, and the rest of
+-- the text; none if no backquote ends it. Two backquotes in a row are one.
 abbrev pub read_name : List ℕ → Option (List ℕ × List ℕ)
 read_name [] = None
 read_name (a ∷ []) = if is_backquote a then Some ([], []) else None
@@ -27,7 +27,7 @@ read_name (a ∷ b ∷ text) =
     if is_backquote a && is_backquote b then with_byte b (read_name text) else (
     if is_backquote a then Some ([], b ∷ text) else with_byte a (read_name (b ∷ text)))
 
--- the name of the identifier in backquotes that a text begins with, and what follows it
+-- the name of the identifier in backquotes that a text begins with, and the rest of the text
 abbrev pub read_identifier : List ℕ → Option (List ℕ × List ℕ)
 read_identifier [] = None
 read_identifier (b ∷ text) = if is_backquote b then read_name text else None
@@ -69,7 +69,7 @@ read_after_whole n (b ∷ text) =
 abbrev pub read_unsigned : List ℕ → Option ((ℕ × ℕ) × List ℕ)
 read_unsigned text = option_map (λ r. read_after_whole r.0 r.1) (read_natural text)
 
--- the exact number that a text begins with, and what follows it
+-- the exact number that a text begins with, and the rest of the text
 abbrev pub read_exact : List ℕ → Option (Exact × List ℕ)
 read_exact [] = None
 read_exact (b ∷ text) =

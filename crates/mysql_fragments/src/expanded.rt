@@ -260,8 +260,8 @@ fn placed_surveyed<'f>(
     }
 }
 
-// The first of the causes after the fragments for the places are known: the marks, the places, the
-// floats, the faults.
+// The first cause that refuses the fragments once they are in the order of the places: the number
+// of marks, a place that doesn't stand alone, a float, a fault.
 fn later_error(survey: Survey, fragments: &[&Fragment], as_literals: bool) -> Option<FragmentsError>
     ensures { (ts : List Token) → IsSurvey survey ts → option_map cause_of result
         ≡ option_map Some (later_cause as_literals ts (referents fragments.now)) }

@@ -255,7 +255,7 @@ fn name_fault(name: &[u8], part: usize) -> Option<FragmentFault>
     }
 }
 
-// Whether a backslash stands directly before a backquote, or is the last byte.
+// Whether a backslash is directly before a backquote, or is the last byte.
 fn escapes_end(name: &[u8]) -> bool
     ensures { result ≡ escapes_end name.now }
 {
@@ -288,7 +288,7 @@ fn character_count(name: &[u8]) -> usize
     count
 }
 
-// Whether the byte goes on with a UTF-8 character.
+// Whether the byte continues a UTF-8 character.
 fn is_continuation(b: u8) -> bool
     ensures { result ≡ is_continuation b }
 {

@@ -36,7 +36,8 @@ pub(crate) fn filled_query<F: LiteralForm>(
 {
     let text = spliced_text(alloc, query, fragments, reading, form)?;
 
-    // The text grew into more room than it needs. A caller may keep it, so it gets just its own.
+    // The text grew in more memory than it needs. A caller may keep the text, so it is copied into
+    // memory of its own length.
     let text = Vec::from_slice(alloc, text.as_slice())?;
     Ok(text)
 }
