@@ -1,6 +1,6 @@
 -- Queries that fit exactly the parameters that are given to them and may be bound for any mode and
--- any server, so that out of memory is the only error, and the text. The prover computes these
--- facts for a constant query. Such a query has the same tokens in both modes.
+-- any server, and their texts. Out of memory is the only error of binding them. The prover computes
+-- these facts for a constant query. Such a query has the same tokens in both modes.
 use Rattle.std.specs.Prelude.{◌≡◌, ℕ, List, None}
 use Rattle.mysql_sql_text.specs.StringUnits.{with_backslashes}
 use Rattle.mysql_values.specs.declared.value.Value.{Value}

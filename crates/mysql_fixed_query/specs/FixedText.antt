@@ -12,8 +12,8 @@ use Rattle.mysql_named_params.specs.TokensOf.{tokens_of}
 use Rattle.mysql_named_params.specs.NamesAndMarks.{names}
 use Rattle.mysql_binding.specs.Pieces.{pieces, joined_text}
 
--- the text of a query of these tokens with the literals of these values in its places, in order;
--- there are as many values as places, and none is a float, which has no literal
+-- The text of a query of these tokens with the literals of these values in its places, in order.
+-- There are as many values as places, and none is a float, which has no literal.
 abbrev pub text_with : (Value → List ℕ) → List Token → List Value → List ℕ
 text_with literal ts values = unwrap_or (joined_text (pieces ts) (map literal values)) []
 

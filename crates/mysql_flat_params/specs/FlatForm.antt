@@ -1,4 +1,4 @@
--- The flat form of parameters. Parameters come one after another up to the end of the form, each as
+-- The flat form of parameters. Parameters come one after another up to the end of the form. Each is
 -- its name, a length-encoded string, which is empty for a parameter by position; a byte, the number
 -- of its column type; a byte of flags; and its value in binary form. Names, types, flags and values
 -- are those of the MySQL client/server protocol ("Protocol::LengthEncodedString",

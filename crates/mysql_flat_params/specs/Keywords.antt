@@ -1,6 +1,6 @@
--- The keywords that a form may have (MySQL Reference Manual, "Keywords and Reserved Words"), for
--- choices at run time in places where no value is allowed, such as an order or the unit of an
--- interval.
+-- The keywords that a form may have (MySQL Reference Manual, "Keywords and Reserved Words"). They
+-- are for choices at run time in places where no value is allowed, such as an order or the unit of
+-- an interval.
 use Rattle.std.specs.Prelude.{ℕ, List, [], ◌∷◌, codes, if◌then◌else◌}
 use Rattle.std.specs.Str.{bytes_eq}
 

@@ -7,8 +7,8 @@ use Rattle.mysql_named_params.specs.Places.{with_marks}
 use Rattle.mysql_flat_params.specs.NamesAnswer.{lenenc_row}
 use Rattle.mysql_flat_params.specs.declared.names_room.NamesSurvey.{NamesSurvey}
 
--- these tokens have this many names and marks, and these are the lengths of their text with marks
--- in place of the names, and of the names, each as a length-encoded string
+-- These tokens have this many names and marks. The lengths are that of their text with marks in
+-- place of the names, and that of the names, each as a length-encoded string.
 abbrev pub IsNamesSurvey : NamesSurvey → List Token → Type 0
 IsNamesSurvey survey ts =
     (survey.names ≡ length (names ts)) × (survey.marks ≡ marks ts)

@@ -1,5 +1,5 @@
--- The promises about an answer in a caller's room with steady literals, for the query and the form:
--- a text for any mode and any server (AnywhereIntoRoom.antt) or for both modes
+-- The promises about an answer in a caller's room with steady literals, for the query and the form.
+-- It is a text for any mode and any server (AnywhereIntoRoom.antt) or for both modes
 -- (BothModesIntoRoom.antt). A query that isn't refused has the same tokens in both modes.
 use Rattle.std.specs.Prelude.{◌≡◌, ℕ, Bool, false, List, length, Option, Some, None, Ok, Err, option_map, ⊤}
 use Rattle.std.specs.Option.{option_or}

@@ -1,6 +1,6 @@
--- The promises about an answer in a caller's room that is a text for any mode and any server, or
--- for both modes and any server, for a query with wide names and the form. The query with its names
--- in lower case has to be portable.
+-- The promises about an answer in a caller's room, for a query with wide names and the form. It is
+-- a text for any mode and any server, or for both modes and any server. The query with its names in
+-- lower case has to be portable.
 use Rattle.std.specs.Prelude.{ℕ, Bool, true, false, List, Option, option_map}
 use Rattle.mysql_named_params.specs.LoweredNames.{have_capitals, lower_names}
 use Rattle.mysql_named_params.specs.NamesAndMarks.{names}

@@ -204,8 +204,9 @@ fn survey_of(head: TableHead) -> Survey
 }
 
 /// Binds a form's parameters to a query by the query's table, exactly as
-/// [`bind_into`](crate::bind_into) does in the mode of the table: with its outcomes, and the text
-/// at the front of the room. The query isn't walked, except for `Missing`, to look up the place.
+/// [`bind_into`](crate::bind_into) does in the mode of the table. It has the same outcomes, and the
+/// text is at the front of the room. The query isn't walked, except for `Missing`, to look up the
+/// place.
 ///
 /// A table of another query, or of another mode, is refused as `OtherTable` before the form is read
 /// if the query can't have it. It can't if the number of places isn't that of the head, if a place

@@ -33,8 +33,8 @@ pub fn report_first_unportable(query: &[u8], no_backslash_escape: bool, report: 
 }
 
 /// Finds the first construct for which a query isn't portable on servers and in a client that keeps
-/// comments, as [`first_unportable_in_client`] does in a mode, and reports it as
-/// [`report_first_unportable`] does. It returns 0 if and only if there is none.
+/// comments, as [`first_unportable_in_client`] does in a mode. It is reported as by
+/// [`report_first_unportable`]. It returns 0 if and only if there is none.
 ///
 /// The numbers are 1 for [`Construct::ExecutableComment`], and then in the order of the
 /// declaration up to 20.
@@ -83,8 +83,8 @@ pub fn report_first_unportable_wide(
 }
 
 /// Finds the first construct for which a query with wide names isn't portable on servers and in a
-/// client that keeps comments, as [`first_unportable_in_client_wide`] does in a mode, and reports
-/// it as [`report_first_unportable_wide`] does.
+/// client that keeps comments, as [`first_unportable_in_client_wide`] does in a mode. It is
+/// reported as by [`report_first_unportable_wide`].
 pub fn report_first_unportable_in_client_wide(
     alloc: Global,
     query: &[u8],

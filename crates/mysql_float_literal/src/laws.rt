@@ -14,7 +14,7 @@ pub fn is_double_is_shape()
 {}
 
 /// If a number with an exponent reads as a float on its own, it reads as this float before every
-/// text that doesn't begin with a digit, and ends where that text begins.
+/// text that doesn't begin with a digit. It ends where that text begins.
 pub fn doubles_read_before_others()
     ensures { (text : List ℕ) (x : Float) → IsDouble text → parse_float binary64 text ≡ Some x
         → ReadsAs text x }

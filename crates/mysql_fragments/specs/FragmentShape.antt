@@ -1,6 +1,6 @@
--- The shape of the text that is put in a place of a query, with the number of its marks: a mark, a
--- literal, an exact number, a double, an identifier, a keyword, an assignment, or several of these
--- in a list or a row.
+-- The shape of the text that is put in a place of a query, with the number of its marks. It is a
+-- mark, a literal, an exact number, a double, an identifier, a keyword, an assignment, or several
+-- of these in a list or a row.
 use Rattle.std.specs.Prelude.{◌+◌, ℕ, Bool, IsTrue, IsFalse, List, [], ◌∷◌, ◌++◌, codes, ⊤}
 use Rattle.mysql_sql_text.specs.LiteralShape.{AreDigits, IsLiteral}
 use Rattle.mysql_float_literal.specs.DoubleShape.{IsDouble}

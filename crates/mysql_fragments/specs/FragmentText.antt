@@ -1,7 +1,7 @@
 -- The text of a fragment with a given text for each of its values, the text with a mark for each,
--- and these values, in order (MySQL Reference Manual, "Numeric Literals", "Schema Object Names",
--- "Comparison Functions and Operators", "VALUES Statement"; for columns and assignments "INSERT
--- Statement" and "UPDATE Statement").
+-- and these values, in order. The syntax is that of the MySQL Reference Manual, "Numeric Literals",
+-- "Schema Object Names", "Comparison Functions and Operators" and "VALUES Statement". Columns and
+-- assignments are in its "INSERT Statement" and "UPDATE Statement".
 use Rattle.std.specs.Prelude.{◌==◌, ℕ, List, [], ◌∷◌, ◌++◌, if◌then◌else◌, map, codes, length}
 use Rattle.std.specs.List.{flat_map}
 use Rattle.std.specs.Global.{Vec}

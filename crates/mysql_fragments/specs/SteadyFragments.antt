@@ -58,9 +58,9 @@ pub record IsAnywhereFragments (query : List ℕ) (ts : List Token) (given : Giv
   pub portable_text : IsPortable (with_literal_tokens
       (with_literal_tokens ts steady_text.expanded.lists) steady_text.bound.literal_tokens)
   -- On every honest server, in either mode and over every character set, its tokens are those of
-  -- the query, replaced: those of one fragment in place of each name and mark, and then those of
-  -- one literal in place of each mark of a fragment. They are the tokens that the grammar reads,
-  -- except for `--` before a newline and the contents of quiet comments.
+  -- the query, replaced. Each name and mark is replaced by the tokens of one fragment, and then
+  -- each mark of a fragment by the tokens of one literal. These are the tokens that the grammar
+  -- reads, except for `--` before a newline and the contents of quiet comments.
   pub read : (server : Server) (mode : Bool) (set : CharacterSet) (vs : List Token) →
       IsHonest server → IsReadOn server mode (seen set text) vs →
       IsReadAs (with_literal_tokens (with_literal_tokens ts steady_text.expanded.lists)

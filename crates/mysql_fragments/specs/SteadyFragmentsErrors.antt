@@ -19,10 +19,10 @@ IsFragmentsRefusal ts given (UnsteadyFragment place) = (first_cause true ts give
     × (unsteady_place (fragments_for given (names ts)) ≡ Some place)
 IsFragmentsRefusal ts given error = ⊥
 
--- The error is the first of these that holds of a query and of the fragments that are given to it:
--- its first byte that isn't steady; its first construct that isn't portable, if one is looked for;
--- the first cause of fragments; the first fragment that isn't steady. Out of memory may come in
--- place of either of the last two, or of a text.
+-- The error is the first of four causes that holds of a query and of the fragments that are given
+-- to it. These are the query's first byte that isn't steady; its first construct that isn't
+-- portable, if one is looked for; the first cause of fragments; the first fragment that isn't
+-- steady. Out of memory may come in place of either of the last two, or of a text.
 abbrev pub IsSteadyRefusal : List ℕ → Option Unportable → List Token → GivenFragments →
     SteadyFragmentsError → Type 0
 IsSteadyRefusal query unportable ts given (Unsteady at) = first_unsteady query ≡ Some at

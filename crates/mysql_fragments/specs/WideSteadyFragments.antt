@@ -28,9 +28,9 @@ pub record IsWideAnywhereFragments (ts : List Token) (given : GivenFragments) (t
   pub portable_text : IsPortable (with_literal_tokens
       (with_literal_tokens ts steady_text.expanded.lists) steady_text.bound.literal_tokens)
   -- On every honest server, in either mode and over every character set, its tokens are those of
-  -- the query, replaced: those of one fragment in place of each name and mark, and then those of
-  -- one literal in place of each mark of a fragment. They are the tokens that the grammar reads,
-  -- except for `--` before a newline and the contents of quiet comments.
+  -- the query, replaced. Each name and mark is replaced by the tokens of one fragment, and then
+  -- each mark of a fragment by the tokens of one literal. These are the tokens that the grammar
+  -- reads, except for `--` before a newline and the contents of quiet comments.
   pub read : (server : Server) (mode : Bool) (set : CharacterSet) (vs : List Token) →
       IsHonest server → IsReadOn server mode (seen set text) vs →
       IsReadAs (with_literal_tokens (with_literal_tokens ts steady_text.expanded.lists)
@@ -44,8 +44,8 @@ pub record IsWideAnywhereFragments (ts : List Token) (given : GivenFragments) (t
       (with_literal_tokens (with_literal_tokens us steady_text.expanded.lists)
       steady_text.bound.literal_tokens)
 
--- the error is the first cause that holds, as without wide names, or it is out of memory: the query
--- is copied in lower case, and memory for the copy may be refused too
+-- The error is the first cause that holds, as without wide names, or out of memory. Memory may also
+-- be refused for the copy of the query in lower case.
 abbrev pub IsWideSteadyRefusal : List ℕ → Option Unportable → List Token → GivenFragments
     → SteadyFragmentsError → Type 0
 IsWideSteadyRefusal query unportable ts given error =

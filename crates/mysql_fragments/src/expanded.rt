@@ -40,11 +40,16 @@ pub struct ExpandedQuery {
 /// a list of three values is `a IN (?, ?, ?)`. Nothing else of the query changes. A server prepares
 /// the text, and executes it with the values.
 ///
-/// The first of these causes refuses it: names and marks in one query; a name without a fragment,
-/// or fragments of the other kind; in a query without names, marks that aren't as many as the
-/// fragments; a place that doesn't stand alone, as [`bind_text_in`](mysql_binding::bind_text_in)
-/// tests it; a fragment that can't be written ([`Fragment::fault`]). A float is no cause: it is
-/// among the values.
+/// The first of these causes refuses it:
+///
+/// - `Mixed`: names and marks in one query;
+/// - `Missing` or `Confusion`: a name without a fragment, or fragments of the other kind;
+/// - `MarkCount`: in a query without names, marks that aren't as many as the fragments;
+/// - `NotAlone`: a place that doesn't stand alone, as [`bind_text_in`](mysql_binding::bind_text_in)
+///   tests it;
+/// - `Fault`: a fragment that can't be written ([`Fragment::fault`]).
+///
+/// A float is no cause: it is among the values.
 ///
 /// The flag is the server's mode, like that of [`bind_text_in`](mysql_binding::bind_text_in).
 ///

@@ -131,11 +131,11 @@ pub fn fragments_in_clients()
 {}
 
 /// A text that is bound to a portable query with fragments is portable (`portable`). Its tokens are
-/// those of the query, replaced: those of one fragment in place of each name and mark, and then
-/// those of one literal in place of each mark of a fragment. Every honest server reads these
-/// tokens, except for `--` before a newline and the contents of quiet comments (`read`). If the
-/// server decides about a quiet comment by its own text, it reads the tokens that it reads in the
-/// query, replaced (`tokens`).
+/// those of the query, replaced: each name and mark by the tokens of one fragment, and then each
+/// mark of a fragment by the tokens of one literal. Every honest server reads these tokens, except
+/// for `--` before a newline and the contents of quiet comments (`read`). If the server decides
+/// about a quiet comment by its own text, it reads the tokens that it reads in the query, replaced
+/// (`tokens`).
 pub fn bound_fragments_on_servers()
     ensures portable { (mode : Bool) (query text : List ℕ) (ts : List Token)
         (given : GivenFragments) → IsTokens mode query ts →

@@ -29,11 +29,15 @@ use std::alloc::Global;
 /// the query of [`expanded_query`](crate::expanded_query) and its values. So it is ASCII without a
 /// backslash. Nothing else of the query changes.
 ///
-/// The first of these causes refuses it: `Unsteady`, a backslash or a byte from 128 on anywhere in
-/// the query, also in a comment; `Unportable`, a construct that
-/// [`first_unportable`](mysql_portable::portable::first_unportable) finds; `Fragments`, a cause of
-/// [`bind_fragments`](crate::bind_fragments), in its order; `UnsteadyFragment`, a fragment with a
-/// name that has a backslash or a byte from 128 on. Each place in an error is one of the query.
+/// The first of these causes refuses it:
+///
+/// - `Unsteady`: a backslash or a byte from 128 on anywhere in the query, also in a comment;
+/// - `Unportable`: a construct that
+///   [`first_unportable`](mysql_portable::portable::first_unportable) finds;
+/// - `Fragments`: a cause of [`bind_fragments`](crate::bind_fragments), in its order;
+/// - `UnsteadyFragment`: a fragment with a name that has a backslash or a byte from 128 on.
+///
+/// Each place in an error is one of the query.
 ///
 /// MariaDB stores an expression of `DEFAULT`, `AS` or `CHECK` as text in which the introducer of a
 /// steady literal isn't kept right. For the expressions of tables use `bind_fragments`.

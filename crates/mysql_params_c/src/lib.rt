@@ -82,13 +82,17 @@ pub extern "C" fn mysql_params_names(
 /// Binds the form's parameters to the query, and writes the text to the front of the room:
 /// [`bind_into`](mysql_flat_params::bind_into).
 ///
-/// Returns the number of an [`Outcome`](mysql_flat_params::Outcome): 0 (`Done`) with the length of
-/// the text in the report's `len`, 2 (`Room`) with the length that the room would need, 3 to 7 for
-/// a form that is refused, 8 to 14 for a query that is refused, or 1 (`OutOfMemory`). It never
-/// returns 1 for the empty form over a query with names and marks, or for a form that is refused
-/// for its first parameter. The report has the fields of the outcome, and 0 in all others. At each
-/// number except 0 the room is as before. The flag is true if the connection's `sql_mode` has
-/// `NO_BACKSLASH_ESCAPES`.
+/// Returns the number of an [`Outcome`](mysql_flat_params::Outcome):
+///
+/// - 0 (`Done`) with the length of the text in the report's `len`;
+/// - 1 (`OutOfMemory`), but never for the empty form over a query with names and marks, or for a
+///   form that is refused for its first parameter;
+/// - 2 (`Room`) with the length that the room would need;
+/// - 3 to 7 for a form that is refused;
+/// - 8 to 14 for a query that is refused.
+///
+/// The report has the fields of the outcome, and 0 in all others. At each number except 0 the room
+/// is as before. The flag is true if the connection's `sql_mode` has `NO_BACKSLASH_ESCAPES`.
 #[unsafe(no_mangle)]
 pub extern "C" fn mysql_params_bind(
     alloc: Global,

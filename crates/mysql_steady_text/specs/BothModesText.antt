@@ -1,5 +1,5 @@
 -- The promises about a bound text for both modes and any server, also for a query with bytes from
--- 128 on: each value is in one steady literal, and nothing else of the query changes.
+-- 128 on. Each value is in one steady literal, and nothing else of the query changes.
 -- `bind_text_in_both_modes` promises the second record. If there is no text, an error reports the
 -- cause (BothModesErrors.antt). The law `bound_texts_in_both_modes` says more about such a text.
 -- Nothing is said about character sets: a server reads here the bytes that are sent. So the
@@ -78,7 +78,7 @@ pub record IsPortableInBothModes (query : List ℕ) (ts : List Token) (given : G
       IsReadOn server mode text vs →
       IsReadAs (with_literal_tokens ts text_in_both_modes.literal_tokens) vs
   -- If the server decides about a quiet comment by its own text, the tokens are exactly those that
-  -- it reads in the query, with the same literals in place of names and marks.
+  -- it reads in the query, replaced in the same way.
   pub tokens : (server : Server) (mode : Bool) (us : List Token) → IsHonest server →
       DecidesWithin server → IsReadOn server mode query us →
       IsReadOn server mode text (with_literal_tokens us text_in_both_modes.literal_tokens)
@@ -89,8 +89,8 @@ abbrev pub IsBoundAgainInBothModes : List ℕ → Type 0
 IsBoundAgainInBothModes text = (mode : Bool) → OnTokens mode text (λ us.
     (place_count us ≡ 0) × IsTextInBothModes us empty text)
 
--- the query with a mark in place of each name, bound by position to the values that the names are
--- given, is not refused and gives this text; without names it is the query as it is
+-- The query with a mark in place of each name, bound by position to the values that the names are
+-- given, is not refused and gives this text. Without names it is the query as it is.
 abbrev pub IsByPositionInBothModes : Bool → List Token → Given → List ℕ → Type 0
 IsByPositionInBothModes mode ts given text =
     (values : List Value) × (lookup given (names ts) ≡ Ok values)

@@ -15,8 +15,8 @@ abbrev pub IsSteadyBoundAgain : List ℕ → Type 0
 IsSteadyBoundAgain text = (mode : Bool) → OnTokens mode text (λ us.
     (place_count us ≡ 0) × IsSteadyText us empty text)
 
--- the query with a mark in place of each name, bound by position to the values that the names are
--- given, is not refused and gives this text; without names it is the query as it is
+-- The query with a mark in place of each name, bound by position to the values that the names are
+-- given, is not refused and gives this text. Without names it is the query as it is.
 abbrev pub IsSteadyByPosition : Bool → List Token → Given → List ℕ → Type 0
 IsSteadyByPosition mode ts given text =
     (values : List Value) × (lookup given (names ts) ≡ Ok values)

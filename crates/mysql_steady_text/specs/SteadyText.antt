@@ -1,4 +1,4 @@
--- The promises about a bound text for any mode, and for any server: each value is in one steady
+-- The promises about a bound text for any mode, and for any server. Each value is in one steady
 -- literal, and nothing else of the query changes. `bind_text_in_any_mode` promises the first
 -- record, and `bind_text_anywhere` the second. If there is no text, an error reports the cause
 -- (SteadyTextErrors.antt). The laws `bound_steady_texts`, `bound_steady_texts_in_clients` and
@@ -78,7 +78,7 @@ pub record IsAnywhereText (query : List ℕ) (ts : List Token) (given : Given) (
       IsHonest server → IsReadOn server mode (seen set text) vs →
       IsReadAs (with_literal_tokens ts steady_text.literal_tokens) vs
   -- If the server decides about a quiet comment by its own text, the tokens are exactly those that
-  -- it reads in the query, with the same literals in place of names and marks.
+  -- it reads in the query, replaced in the same way.
   pub tokens : (server : Server) (mode : Bool) (set : CharacterSet) (us : List Token) →
       IsHonest server → DecidesWithin server → IsReadOn server mode (seen set query) us →
       IsReadOn server mode (seen set text)

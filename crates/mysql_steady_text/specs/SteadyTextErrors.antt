@@ -13,9 +13,9 @@ abbrev pub IsBindRefusal : Option Cause → SteadyTextError → Type 0
 IsBindRefusal cause (Bind error) = IsCauseOrMemory cause error
 IsBindRefusal cause error = ⊥
 
--- The error is the first of these that a query has: its first byte that isn't steady; its first
--- construct that isn't portable, if one is looked for; its first cause. Out of memory may come in
--- place of the cause or of a text.
+-- The error is the first of three that a query has. These are its first byte that isn't steady; its
+-- first construct that isn't portable, if one is looked for; its first cause. Out of memory may
+-- come in place of the cause or of a text.
 abbrev pub IsSteadyRefusal : List ℕ → Option Unportable → Option Cause → SteadyTextError → Type 0
 IsSteadyRefusal query unportable cause (Unsteady at) = first_unsteady query ≡ Some at
 IsSteadyRefusal query unportable cause (error.Unportable found) =

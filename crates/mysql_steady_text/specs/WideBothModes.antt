@@ -32,14 +32,13 @@ pub record IsWideTextInBothModes (ts : List Token) (given : Given) (text : List 
       IsReadOn server mode text vs →
       IsReadAs (with_literal_tokens ts text_in_both_modes.literal_tokens) vs
   -- If the server decides about a quiet comment by its own text, the tokens are exactly those that
-  -- it reads in the query with its names in lower case, with the same literals in place of names
-  -- and marks.
+  -- it reads in the query with its names in lower case, replaced in the same way.
   pub tokens : (server : Server) (mode : Bool) (us : List Token) → IsHonest server →
       DecidesWithin server → IsReadOn server mode (text_of (lower_names ts)) us →
       IsReadOn server mode text (with_literal_tokens us text_in_both_modes.literal_tokens)
 
--- the error is the first cause that holds, as without wide names, or it is out of memory: the query
--- is copied in lower case, and memory for the copy may be refused too
+-- The error is the first cause that holds, as without wide names, or out of memory. Memory may also
+-- be refused for the copy of the query in lower case.
 abbrev pub IsWideBothModesRefusal : Option ℕ → Option Unportable → Option Cause → BothModesError
     → Type 0
 IsWideBothModesRefusal backslash unportable cause error =

@@ -29,11 +29,15 @@ use std::alloc::Global;
 /// The connection's character set has to be that of the query's own bytes: utf8mb4 for UTF-8. Over
 /// another set, such as gbk, a byte from 128 on may take the backquote after it.
 ///
-/// The first of these causes refuses it: `Backslash`, a backslash in a string of the query;
-/// `Unportable`, a construct that [`first_unportable`](mysql_portable::portable::first_unportable)
-/// finds; `Bind`, a cause of [`bind_text`](mysql_binding::bind_text), in its order. A text in `"`
-/// is a string too. Elsewhere, such as in an identifier in backquotes or a comment, a backslash
-/// stays. The parameters are consumed, even if the call refuses.
+/// The first of these causes refuses it:
+///
+/// - `Backslash`: a backslash in a string of the query. A text in `"` is a string too. Elsewhere,
+///   such as in an identifier in backquotes or a comment, a backslash stays;
+/// - `Unportable`: a construct that
+///   [`first_unportable`](mysql_portable::portable::first_unportable) finds;
+/// - `Bind`: a cause of [`bind_text`](mysql_binding::bind_text), in its order.
+///
+/// The parameters are consumed, even if the call refuses.
 ///
 /// Out of memory may come in place of any text or cause after `Unportable`, except for a query with
 /// names and marks.

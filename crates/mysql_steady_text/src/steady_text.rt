@@ -32,10 +32,14 @@ use std::alloc::Global;
 /// dates and times are written as [`bind_text`](mysql_binding::bind_text) writes them. So the text
 /// is ASCII without a backslash. Nothing else of the query changes.
 ///
-/// The first of these causes refuses it: `Unsteady`, a backslash or a byte from 128 on anywhere in
-/// the query, also in a comment; `Unportable`, a construct that
-/// [`first_unportable`](mysql_portable::portable::first_unportable) finds; `Bind`, a cause of
-/// `bind_text`, in its order. The parameters are consumed, even if the call refuses.
+/// The first of these causes refuses it:
+///
+/// - `Unsteady`: a backslash or a byte from 128 on anywhere in the query, also in a comment;
+/// - `Unportable`: a construct that
+///   [`first_unportable`](mysql_portable::portable::first_unportable) finds;
+/// - `Bind`: a cause of `bind_text`, in its order.
+///
+/// The parameters are consumed, even if the call refuses.
 ///
 /// MariaDB stores an expression of `DEFAULT`, `AS` or `CHECK` as text in which the introducer of a
 /// steady literal isn't kept right. For the expressions of tables use `bind_text`.
