@@ -1,4 +1,4 @@
--- What is said of an answer is said of it if what is expected is known, and an error without a cause
+-- A promise about an answer holds for it if the expected answer is known. An error without a cause
 -- is out of memory.
 use Rattle.std.specs.Prelude.{Result, Ok, IfOk, alloc_error, ⊤}
 use Rattle.std.proofs.Common.{◌≡◌, inl, inr, ℕ, List, Option, Some, None, sym, subst, ◌∙◌}
@@ -23,7 +23,7 @@ answer_at expected known answer same = subst (λ m. IsAnswer given to_params_ref
 pub if_ok_at : {A E : Type 0} (P : A → Type 0) (r : Result A E) (a : A) → r ≡ Ok a → P a → IfOk r P
 if_ok_at P r a is holds = subst (λ x. IfOk x P) (sym is) holds
 
--- what was made gives what is expected
+-- the parameters that were made are the expected ones
 pub made_is : (expected : Given) (params : Params) (made : Result Params ToParamsError) →
     made ≡ Ok params → IsAnswer given to_params_refusal (Ok expected) ⊤ made →
     given params ≡ expected
@@ -37,7 +37,7 @@ without_cause : (cause : Option Cause) (error : BindError) → cause ≡ None �
 without_cause cause error none (inl memory) = memory
 without_cause cause error none (inr why) = let never : Some why.0 ≡ None = sym why.1 ∙ none in cc
 
--- what is refused without a cause is refused for memory
+-- a refusal without a cause is out of memory
 pub memory_alone : (reading : Reading) (query : List ℕ) (g : Given) (error : BindError) →
     OnTokensIn reading query (λ ts. first_cause ts g ≡ None) →
     OnTokensIn reading query (λ ts. IsCauseOrMemory (first_cause ts g) error) →

@@ -73,7 +73,7 @@ module _ {ts : List Token} {pairs : List (List ℕ × Meaning)} (h : Fits ts pai
 
 module _ {mode : Bool} {query : List ℕ} {made : Made}
     (h : IsBindableByPosition mode query made) where
-  -- what is made, and that it gives its values to the query
+  -- the parameters that are made, which give their values to the query
   pub in_order : (g : Given) × (made ≡ Ok g)
       × (lookup g (names (tokens_of mode query)) ≡ Ok (values_of made))
   in_order = of_made made h.by_position

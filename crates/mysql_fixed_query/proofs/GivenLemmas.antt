@@ -1,4 +1,5 @@
--- What pairs with new names make, and the values that it gives to names of theirs.
+-- The parameters that pairs with new names make, and the values that these give to names of the
+-- pairs.
 use Rattle.std.specs.Prelude.{Bool, is_some, ok_or, fold, Ok, Err, unwrap_or}
 use Rattle.std.proofs.Common.{◌≡◌, ◌<◌, ℕ, ◌+◌, true, false, not, List, [], ◌∷◌, ◌++◌, length, map, Option, Some, None, refl, sym, ap, ◌∙◌, subst, inl, inr, arith, append_assoc, append-nil, true≢false}
 use Rattle.std.specs.List.{list_all}
@@ -25,11 +26,11 @@ Pairs = List (List ℕ × Value)
 abbrev have_no_float : Pairs → Bool
 have_no_float pairs = list_all (λ pair. not (is_float pair.1)) pairs
 
--- a pair with its value as what a thing means
+-- a pair with its value as the meaning of a thing
 abbrev meant : List ℕ × Value → List ℕ × Meaning
 meant pair = (pair.0, Ok pair.1)
 
--- ---- what is made
+-- ---- the parameters that are made
 
 -- a map of pairs has the names of the pairs
 has_name-from_entries : (pairs : Pairs) (name : List ℕ) →
@@ -99,7 +100,7 @@ pairs_made-new pairs h new =
     rw (map-meant-valued pairs h) at (fold-with_pair [] (valued pairs) new_too) in
     rw made refl
 
--- ---- what is given
+-- ---- the values that are given
 
 some_of : {A : Type 0} (o : Option A) (a : A) → is_some o ≡ true → o ≡ Some (unwrap_or o a)
 some_of None a e = absurd (true≢false (sym e))

@@ -17,7 +17,7 @@ module _ (reading : Reading) (query : List ℕ) where
       tokens_read reading.wide_names reading.no_backslash_escape query _
       (tokens_right reading.no_backslash_escape query)
 
-  -- what holds of these tokens, as the calls say it
+  -- a fact about these tokens, in the form of the contracts
   pub on_tokens : (P : List Token → Type 0) → P (tokens_in reading query) → OnTokensIn reading query P
   on_tokens P holds = (tokens_in reading query, tokens_in_right, holds)
 

@@ -1,4 +1,4 @@
--- A form has one reading, and parameter by parameter it is that of what is left.
+-- A form has one reading. After each parameter, it is the reading of the bytes that are left.
 use Rattle.std.specs.Prelude.{Result, Ok, Err, ⊤, IsOk, alloc_error, IfOk, IfErr, IsErrAnd, IsTrue, ◌==◌}
 use Rattle.std.specs.FinMap as finite
 use Rattle.std.proofs.Common.{◌≡◌, ◌≢◌, ℕ, zero, suc, ◌+◌, ◌-◌, ◌<◌, ◌≤◌, List, [], ◌∷◌, ◌++◌, length, take, get_or, inl, inr, true, false, refl, sym, ap, ◌∙◌, subst, arith}
@@ -19,7 +19,7 @@ use Rattle.mysql_flat_params.proofs.LeavesLemmas.{Leaves, leaves_parameter}
 abbrev Readings : (total place : ℕ) → Given → List ℕ → Type 0
 Readings total place given bytes = (reading : Result Given FormRefusal) × IsReadFrom total place given bytes reading
 
--- a reading of what follows a parameter is one with the parameter
+-- a reading of the bytes after a parameter is one with the parameter
 reading_with : (total place : ℕ) (given : Given) (b : ℕ) (bytes : List ℕ) (read : FormReading Given) →
     read_parameter total place given (b ∷ bytes) ≡ read → Leaves (length bytes) read →
     ((more : Given) (rest : List ℕ) → length rest ≤ length bytes → Readings total (place + 1) more rest) →
@@ -165,7 +165,7 @@ module _ (form : List ℕ) where
           (parameter_read (length form) 0 empty form 0 empty form (with_parameter empty name value) next 1 all_of_it some
           (first_parameter (Ok (name, rest)) is ∙ ap (after_value empty name) value_is) refl).0
 
-      -- what follows it gives the parameters, or refuses them
+      -- the bytes after it give the parameters, or refuse them
       pub params_after_first : {X : Type 0} (seen : X → Given) (first : Given) → with_parameter empty name value ≡ first → (result : Result X FormError) →
           IfOk result (λ params. IsReadFrom (length form) 1 first next (Ok (seen params))) →
           IfOk result (λ params. IsFormReading form (Ok (seen params)))
@@ -201,7 +201,7 @@ not_empty xs h e =
     let never : false ≡ true = h e in
     cc
 
--- a form that says values has a first parameter
+-- a form with values has a first parameter
 values_have_first : (total place : ℕ) (given : Given) (bytes : List ℕ) (reading : Result Given FormRefusal) →
     IsReadFrom total place given bytes reading → given ≡ empty → (values : List Value) → reading ≡ Ok (positional values) →
     IsOk (read_parameter total place given bytes)

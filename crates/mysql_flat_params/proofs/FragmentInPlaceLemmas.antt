@@ -1,4 +1,5 @@
--- What is kept of a fragment where it lies says a fragment, and what is read says the same.
+-- A fragment that is kept in the form's own bytes has the content of a fragment, and the fragment
+-- that is read has the same.
 use Rattle.std.specs.Prelude.{IfSome, Ok, Option, Some, None, ⊤}
 use Rattle.std.specs.Borrow.{Bor}
 use Rattle.std.specs.Global.{Vec}
@@ -48,7 +49,7 @@ rows_kept r =
     one_said r.cells.alloc (borrowed.Rows (record { cells = lent r.cells.items; width = r.width; count = r.count; shape = r.shape }))
     (omega (arith, r.cells.ok.0, r.cells.ok.1, r.cells.small))
 
--- what is said of each row
+-- the content of each row
 contents_of_rows : (said : List (Vec Item)) (cells : List (List ValueRef)) → map (λ row. row.items) said ≡ map (map cell_item) cells →
     map (λ row. items_content row.items) said ≡ map (map cell_content) cells
 contents_of_rows said cells e =
@@ -92,7 +93,7 @@ one_chunk_more width (suc count) xs more e w =
     drop_left (suc n) [] zs le = absurd (omega (arith, le))
     drop_left (suc n) (y ∷ ys) zs le = drop_left n ys zs (omega (arith, le))
 
--- ---- what a type is
+-- ---- the types
 
 -- a number that is none of this library's own types is that of a value
 module _ (place position flags : ℕ) (bytes : List ℕ) where
@@ -111,7 +112,7 @@ module _ (place position flags : ℕ) (bytes : List ℕ) where
       other : (k : ℕ) → 128 ≤ k → k ≤ 135 → n ≢ k
       other k low high e = elim apart [ inl below ↦ omega (arith, below, e, low) | inr above ↦ omega (arith, above, e, high) ]
 
-  -- what a list and rows of values are
+  -- a list and rows of values
   pub list_typed : (n : ℕ) (cells : Vec ValueRef) (rest : List ℕ) (said : Fragment) → n ≡ 129 → read_items place position bytes ≡ Ok (map cell_content cells.items, rest) →
       IsKeptAs (kept.List cells) said → read_fragment_of place position n flags bytes ≡ Ok (content_of said, rest)
   list_typed n cells rest said is read h =
@@ -131,7 +132,7 @@ module _ (place position flags : ℕ) (bytes : List ℕ) where
       refusal_expected_too (read_of_type place position n (column_type n) (is_unsigned_parameter flags) bytes) (read_fragment_of place position n flags bytes) ⊥ ⊤ refusal
       (λ why e. value_typed n apart ∙ ap (map_form fragment_of_value) e) (λ _. tt) h
 
--- a list or rows that are kept after a type and flags are what is read of them
+-- a list or rows that are kept after a type and flags are those that are read
 pub kept_read : (place position : ℕ) (bytes rest : List ℕ) (read : Option FragmentInPlace) (one : FragmentInPlace) → 2 ≤ length bytes → read ≡ Some one →
     IfSome read (λ each. (said : Fragment) × IsKeptAs each said
     × ((flags : ℕ) → read_fragment_of place position (get_or bytes 0 0) flags (take (length bytes - 2) (drop 2 bytes)) ≡ Ok (content_of said, rest))) →
@@ -142,7 +143,7 @@ kept_read place position bytes rest (Some each) one two is h =
     subst (λ z. (said : Fragment) × IsKeptAs z said × (read_fragment place position bytes ≡ Ok (content_of said, rest))) same
     (h.0, h.1, fragment_typed place position bytes two ∙ h.2 (get_or bytes 1 0))
 
--- rows that are lent are the same rows
+-- borrowed rows are the same rows
 pub rows_lent : (r : RowsInPlace) (b : RowsRef) → b.cells.now ≡ r.cells.items → b.width ≡ r.width →
     first_chunks r.width r.count r.cells.items ≡ cell_rows b
 rows_lent r b cells width =

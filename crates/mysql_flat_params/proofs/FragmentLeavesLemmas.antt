@@ -59,7 +59,7 @@ leaves_typed : (place position type flags : ℕ) (bytes : List ℕ) →
 leaves_typed place position type flags bytes = leaves_value place position (type ∷ flags ∷ bytes)
 
 module _ (place position : ℕ) where
-  -- the same, of what takes no more than what stands after type and flags
+  -- the same, for a reading that takes no more than the bytes after type and flags
   after_type : {X : Type 0} (type flags : ℕ) (bytes : List ℕ) (read : FormReading X) → Leaves (length bytes) read →
       Leaves (length (type ∷ flags ∷ bytes)) read
   after_type type flags bytes read h = leaves_more (length bytes) (length (type ∷ flags ∷ bytes)) read (omega arith) h

@@ -1,5 +1,5 @@
--- What an outcome of binding fragments for any mode and any server says, by what the calls below
--- returned.
+-- The meaning of an outcome of binding fragments for any mode and any server, from the results of
+-- the calls below.
 use Rattle.std.specs.Prelude.{Bool, false, true, Some, Ok, ◌⊎◌}
 use Rattle.std.proofs.Common.{◌≡◌, ℕ, List, arith, inl, inr, length, subst, take}
 use Rattle.std.proofs.lemmas.List.{length-take-le}
@@ -40,7 +40,7 @@ use Rattle.mysql_flat_params.specs.declared.fragments_outcome.FragmentsOutcome.T
 use Rattle.mysql_flat_params.proofs.SteadyOutcomeLemmas.{told_first}
 use Rattle.mysql_flat_params.proofs.SteadyRoomLemmas.{none_told}
 
--- ---- a query that is refused whatever is given to it
+-- ---- a query that is refused with any fragments
 
 pub refused_told : (wide : Bool) (query form : List ℕ) (given : GivenFragments) → IsFormReading form (Ok given) → (outcome : Outcome) (ts : List Token) →
     refusal_as wide Anywhere query ts ≡ Some outcome →

@@ -1,4 +1,4 @@
--- Parameter by parameter, the reading of a form is that of what is left.
+-- After each parameter, the reading of a form is the reading of the bytes that are left.
 use Rattle.std.specs.Prelude.{Result, Ok, ⊤}
 use Rattle.std.proofs.Common.{◌≡◌, ◌≢◌, ℕ, ◌+◌, ◌-◌, ◌<◌, ◌≤◌, List, [], ◌∷◌, length, take, drop, get_or, inl, inr, refl, sym, ap, subst, arith}
 use Rattle.std.proofs.lemmas.List.{take_rest}

@@ -1,4 +1,4 @@
--- What is kept of a form, parameter by parameter.
+-- The kept fragments of a form, parameter by parameter.
 use Rattle.std.specs.Prelude.{Ok, Err, Option, Some, None, is_some, option_copied, ⊤}
 use Rattle.std.specs.Borrow.{Bor}
 use Rattle.std.specs.FinMap.{contains_key, empty, get, get-empty, get-insert, insert}
@@ -27,7 +27,7 @@ kept_more [] (s ∷ said) fragment one all h = absurd all
 kept_more (f ∷ fragments) [] fragment one all h = absurd all
 kept_more (f ∷ fragments) (s ∷ said) fragment one all h = (all.0, kept_more fragments said fragment one all.1 h)
 
--- what is given with one more by position
+-- the given fragments with one more by position
 with_one_more : (said : List Fragment) (name : List ℕ) (one : Fragment) → (said ≡ [] → name ≡ []) →
     with_parameter (positional said) name one ≡ positional (said ++ one ∷ [])
 with_one_more [] [] one alike = refl
@@ -106,7 +106,7 @@ has_kept es m name o all is = is_some-copied o ∙ (ap is_some is ∙ some_found
 
 -- ---- one parameter
 
--- what follows a name that is read
+-- the reading after a name that is read
 abbrev after_name : (total place : ℕ) → GivenFragments → (position : ℕ) → FormReading (List ℕ) → FormReading (List ℕ × FragmentContent)
 after_name total place given position read =
     and_then_form read (λ n left. fragment_unless (name_refusal place position (total - length left - length n) given n) place position n left)

@@ -1,4 +1,4 @@
--- What an outcome says, by what the calls below returned.
+-- The meaning of an outcome, from the results of the calls below.
 use Rattle.std.specs.Prelude.{Option, Some, None, Result, Ok, Err, option_map, true, if◌then◌else◌}
 use Rattle.std.specs.Option.{option_or}
 use Rattle.std.specs.List.{Contains}
@@ -104,7 +104,7 @@ missing_is_name ts given absent e =
     missing_for given (names ts) absent
     (refused_for_places (missing absent) ts (fragments_for given (names ts)) (unmixed (missing absent) (has_both ts) _ e))
 
--- ---- an error that stands for a cause is that of the first cause
+-- ---- an error with a cause is that of the first cause
 
 module _ (error : FragmentsError) (cause : Cause) (is : cause_of error ≡ Some cause) where
   cause_is_first : (first : Option Cause) → IsCauseOrMemory first error → first ≡ Some cause
@@ -128,7 +128,7 @@ pub name_is_there : (reading : Reading) (query name : List ℕ) (error : Fragmen
 name_is_there reading query name error is (given, o) =
     (o.0, o.1, missing_is_name o.0 given name (cause_is_first error (refused_fragments (missing name)) is (first_cause true o.0 given) o.2))
 
--- the outcome tells where it is
+-- the outcome reports its place
 pub missing_told : (reading : Reading) (query form name : List ℕ) (told : Outcome) → IsRefusedForIn reading query form (refused_fragments (missing name)) →
     IsMissingNameIn reading query name told → IsOutcomeAsValuesIn reading query form told
 missing_told reading query form name (outcome.Missing place position len) refused is = (name, refused, is)

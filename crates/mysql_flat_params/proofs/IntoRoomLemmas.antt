@@ -1,4 +1,4 @@
--- What an outcome says, by what the calls below returned.
+-- The meaning of an outcome, from the results of the calls below.
 use Rattle.std.specs.Prelude.{Option, Some, None, Result, Ok, Err, IfSome, IsOk, alloc_error, option_map}
 use Rattle.std.specs.List.{Contains}
 use Rattle.std.proofs.Common.{arith, ◌≡◌, ◌⊎◌, ◌<◌, inl, inr, ℕ, zero, suc, List, [], ◌∷◌, length, take, refl, sym, ap, ◌∙◌, subst}
@@ -29,7 +29,7 @@ use Rattle.mysql_flat_params.specs.declared.outcome.Outcome.{Outcome}
 use Rattle.mysql_flat_params.specs.declared.outcome.Outcome.TheVariants.{Done, Room, Missing}
 use Rattle.mysql_flat_params.proofs.MissingLemmas.{missing_is_name}
 
--- an error that stands for a cause is that of the first cause
+-- an error with a cause is that of the first cause
 module _ (error : BindError) (cause : Cause) (is : cause_of error ≡ Some cause) where
   cause_is_first : (first : Option Cause) → IsCauseOrMemory first error → first ≡ Some cause
   cause_is_first first (inl memory) =
@@ -62,7 +62,7 @@ name_is_not_there reading query name o none =
     let same : o.0 ≡ none.0 = one_query_reading reading query o.0 none.0 o.1 none.1 in
     none.2 (subst (λ ts. Contains (names ts) name) same o.2)
 
--- the outcome tells where it is
+-- the outcome reports its place
 pub missing_told : (reading : Reading) (query form name : List ℕ) (told : Option Outcome) → IsRefusedForIn reading query form (refused_params (missing name)) →
     IfSome told (IsMissingNameIn reading query name) → IfSome told (IsBindOutcomeIn reading query form)
 missing_told reading query form name None refused at = tt

@@ -12,7 +12,7 @@ use Rattle.mysql_params_core.specs.Given.{Given}
 use Rattle.mysql_flat_params.specs.ColumnNumbers.{column_type, is_unsigned_parameter}
 use Rattle.mysql_flat_params.specs.FlatForm.{FormRefusal, FormReading, in_parameter, read_name, read_of_type, read_value, name_refusal, after_value, value_unless, after_name, read_parameter}
 
--- what is read leaves at most so many bytes
+-- the reading leaves at most `n` bytes
 abbrev pub Leaves : {X E : Type 0} → ℕ → Result (X × List ℕ) E → Type 0
 Leaves n (Ok read) = length read.1 ≤ n
 Leaves n (Err refusal) = ⊤
@@ -51,7 +51,7 @@ leaves_length b bytes =
     (leaves_if (length bytes) (b == lead_of_three) _ _ (leaves_number 3 bytes)
     (leaves_if (length bytes) (b == lead_of_eight) _ _ (leaves_number 8 bytes) tt)))
 
--- what is read and what is left are of these bytes
+-- the bytes that are read and those that are left are among these bytes
 abbrev Within : ℕ → Reading (List ℕ) → Type 0
 Within n (Ok read) = length read.0 + length read.1 ≤ n
 Within n (Err refusal) = ⊤
@@ -73,7 +73,8 @@ within_then : (n : ℕ) (read : Reading ℕ) → Leaves n read → Within n (and
 within_then n (Ok read) h = within_more (length read.1) n (read_bytes read.0 read.1) h (within_bytes read.0 read.1)
 within_then n (Err e) h = tt
 
--- a string, its length of at least a byte, and what is left after it are what there was
+-- a string, its length of at least a byte, and the bytes that are left after it are all bytes that
+-- there were
 pub lenenc_within : (bytes text rest : List ℕ) → read_lenenc bytes ≡ Ok (text, rest) → length text + length rest < length bytes
 lenenc_within [] text rest is = cc
 lenenc_within (b ∷ bytes) text rest is =
@@ -178,7 +179,7 @@ leaves_parameter total place given b bytes =
     leaves_after_name (length bytes) total place position given (read_name place position (b ∷ bytes))
     (leaves_in (length bytes) place position 0 (read_lenenc (b ∷ bytes)) (leaves_lenenc b bytes))
 
--- what a value leaves, if it is read
+-- the bytes that a value leaves, if it is read
 pub value_leaves : (place position : ℕ) (bytes : List ℕ) (value : Value) (rest : List ℕ) →
     read_value place position bytes ≡ Ok (value, rest) → length rest ≤ length bytes
 value_leaves place position bytes value rest is = subst (Leaves (length bytes)) is (leaves_value place position bytes)

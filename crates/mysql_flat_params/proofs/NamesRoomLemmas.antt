@@ -33,7 +33,7 @@ use Rattle.mysql_flat_params.specs.declared.outcome.Outcome.{Outcome}
 use Rattle.mysql_flat_params.specs.declared.outcome.Outcome.TheVariants.{Done, Room, OutOfMemory}
 use Rattle.mysql_flat_params.proofs.MarkedLemmas.{text-with_marks_at_place}
 
--- text and row are gathered, except for what is left
+-- text and row are gathered, except for the rest
 pub record GatheredSoFar (reading : Reading) (query rest text row : List ℕ) : Type 0 where
   pub all : List Token
   pub tokens : IsTokensIn reading query all
@@ -108,7 +108,7 @@ module _ (reading : Reading) (query rest text row : List ℕ) (s : GatheredSoFar
         ),
       )
 
--- text and row are written as far as the indices, and have room for what is left
+-- text and row are written up to the indices, and have room for the rest
 pub record NamedSoFar (reading : Reading) (query rest text row : List ℕ) (text_at row_at : ℕ) : Type 0 where
   pub all : List Token
   pub tokens : IsTokensIn reading query all
@@ -299,7 +299,7 @@ module _ (reading : Reading) (query : List ℕ) (survey : NamesSurvey) (o : OnTo
             ∙ ap (λ x. lenenc_spelling (text_of (with_marks o.0)) ++ x) row_is),
       )
 
--- what is in the room is the answer to a query that is not mixed
+-- the room has the answer to a query that is not mixed
 pub answered : (reading : Reading) (query old new : List ℕ) (survey : NamesSurvey) (outcome : Outcome) → OnTokensIn reading query (IsNamesSurvey survey) →
     ((0 < survey.names) × (0 < survey.marks) → ⊥) → OnTokensIn reading query (λ ts. IsInRoom (names_answer (parsed ts)) old new outcome) →
     (text : List ℕ) × IsNamesAnswerIn reading query text × IsInRoom text old new outcome

@@ -15,7 +15,7 @@ use Rattle.mysql_named_params.proofs.ReadingLemmas.{one_reading, reading_exists,
 use Rattle.mysql_flat_params.specs.NamesAnswer.{lenenc_row}
 use Rattle.mysql_flat_params.proofs.MarkedLemmas.{length-with_marks_at_place, name_has_byte, lenenc_small}
 
--- with those that are left, so many names, marks and bytes are those of the query
+-- these numbers of names, marks and bytes, with those of the rest, are those of the query
 pub record SurveyedSoFar (reading : Reading) (query rest : List ℕ) (name_count mark_count marked_len row_len : ℕ) : Type 0 where
   pub all : List Token
   pub tokens : IsTokensIn reading query all
@@ -78,7 +78,7 @@ module _ (reading : Reading) (query rest : List ℕ) (i j m r : ℕ) (s : Survey
         name_length : length name + 1 ≡ found.len
         name_length = omega (arith, ap length name_is, length-drop 1 place, place_length, p.has_length)
 
-        -- what a name takes in the answer
+        -- the length of a name in the answer
         pub name_small : 2 * (length (lenenc_spelling name) + 1) ≤ 3 * found.len
         name_small =
             omega (arith, name_length, lenenc_small name (omega (arith, name_has_byte reading _ p.place p.back is p.place_tokens, ap length name_bytes)))

@@ -1,4 +1,4 @@
--- The table of a query's places, and what is told of binding by it.
+-- The table of a query's places, and the outcomes of binding by it.
 use Rattle.std.specs.Prelude.{IsTrue, Ok, Err, Result}
 use Rattle.std.proofs.Common.{◌≡◌, false, ℕ, ◌+◌, ◌≤◌, List, [], ◌++◌, length, map, take, take_all, drop, sym, ap, ◌∙◌, subst, arith}
 use Rattle.std.proofs.lemmas.List.{length-take-le, length-map, nil_from_length, take-append-le}
@@ -34,7 +34,7 @@ use Rattle.mysql_flat_params.specs.declared.place_table.ReadTemplate.{ReadTempla
 -- ---- the table that is made
 
 module _ (reading : Reading) (query : List ℕ) (survey : Survey) (o : OnTokensIn reading query (IsSurvey survey)) where
-  -- so many places were counted
+  -- this many places were counted
   pub counted : OnTokensIn reading query (λ ts. survey.names + survey.marks ≡ place_count ts)
   counted = (o.0, o.1, omega (arith, o.2.0, o.2.1, place_count-sum o.0))
 
@@ -60,7 +60,7 @@ module _ (reading : Reading) (query : List ℕ) (survey : Survey) (o : OnTokensI
         let no_place : map span_of (found_places o.0) ≡ [] = nil_from_length (map span_of (found_places o.0)) (omega (arith, all, none, length-map (found_places o.0) span_of, found_count 0 o.0)) in
         said (take (survey.names + survey.marks) room) (o.0, o.1, empty ∙ sym no_place)
 
--- ---- what is told
+-- ---- the outcomes
 
 -- by its head, the table is that of the survey
 pub own_table : (template : ReadTemplate) (survey : Survey) → survey ≡ survey_of template.head → HasOwnTableIn template →
@@ -72,7 +72,7 @@ pub can_have : (template : ReadTemplate) (survey : Survey) → survey ≡ survey
     FitSurvey survey template.places.now template.query.now
 can_have template survey is can = subst (λ s. FitSurvey s template.places.now template.query.now) (sym is) can
 
--- the query with what the template says of its places
+-- the query with the places of the template
 pub record IsOfTemplate (template : ReadTemplate) (spanned : SpannedQuery) : Type 0 where
   pub query : spanned.query.now ≡ template.query.now
   pub survey : spanned.survey ≡ survey_of template.head
@@ -90,7 +90,7 @@ module _ (template : ReadTemplate) (spanned : SpannedQuery) (is : IsOfTemplate t
   pub own_spans : HasOwnTableIn template → HasOwnSpans spanned template.reading
   own_spans own = rw (is.query, is.survey, is.spans) own
 
-  -- what a refused lookup misses
+  -- the name that a refused lookup misses
   pub misses_other : (form : List ℕ) (given : Given) (error : BindError) → IsFormReading form (Ok given) → RefusesNames spanned given error →
       MissesOtherNameIn template.reading template.query.now error → MissesOtherPlaceIn template form
   misses_other form given error reads refused (name, cause, other) = (

@@ -36,7 +36,7 @@ missing_after m (k ∷ ns) n more (f ∷ fs) e none =
     let later : map (get m) ns ≡ map (λ x. Some x) fs = cc in
     ap (λ o. with_first k o (fragments_at m (ns ++ n ∷ more))) here ∙ ap (with_first k (Some f)) (missing_after m ns n more fs later none)
 
--- one more that is said
+-- one more fragment of the same content
 pub said_more : (list : List FragmentRef) (said : List Fragment) (r : FragmentRef) (f : Fragment) → AreSaid list said → Says r f →
     AreSaid (list ++ r ∷ []) (said ++ f ∷ [])
 said_more [] [] r f all h = (h, tt)
@@ -86,7 +86,7 @@ module _ (entries : List (Bor (List ℕ) × FragmentInPlace)) (names : List (Lis
 
 -- ---- by position
 
--- what is kept at an index, and the fragment there
+-- the kept fragment at an index, and the fragment there
 pub kept_at_index : (list : List FragmentInPlace) (said : List Fragment) (i : ℕ) (d : FragmentInPlace) → AreKeptAs list said → i < length list →
     (one : Fragment) × (take (suc i) said ≡ take i said ++ one ∷ []) × IsKeptAs (get_or list i d) one
 kept_at_index [] said i d all below = absurd (omega (arith, below))

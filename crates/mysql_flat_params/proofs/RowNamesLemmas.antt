@@ -1,5 +1,5 @@
--- Names that rows have in common: what is found among them, and that a form which says values under
--- them says just these.
+-- Names that rows have in common: the values that are found among them. A form with values under
+-- these names has exactly these values.
 use Rattle.std.specs.Prelude.{nat_eq, Ok, Option, Some, None, is_some, slice_get, ◌||◌, set}
 use Rattle.std.proofs.Common.{◌≡◌, ◌≢◌, ℕ, zero, suc, ◌+◌, ◌-◌, ◌<◌, ◌≤◌, Bool, true, false, cond, if◌then◌else◌, List, [], ◌∷◌, ◌++◌, length, map, take, drop, get_or, inl, inr, refl, sym, ap, ◌∙◌, subst, arith}
 use Rattle.std.specs.Borrow.{Bor}
@@ -40,7 +40,7 @@ use Rattle.mysql_flat_params.proofs.FormLemmas.{LeadsTo, parameter_read, whole_r
 abbrev Pair : Type 0
 Pair = Bor (List ℕ) × ValueRef
 
--- ---- what is found among pairs
+-- ---- the values that are found among pairs
 
 get-first : (pair : Pair) (pairs : List Pair) (q : List ℕ) →
     get (pair_map (pair ∷ pairs)) q ≡ cond (pointwise nat_eq q pair.0.now) (Some (owned pair.1)) (get (pair_map pairs) q)
@@ -162,7 +162,7 @@ some_bytes : (place position : ℕ) (name : List ℕ) (value : Value) (bytes nex
 some_bytes place position name value [] next (middle, name_is, value_is) e = cc
 some_bytes place position name value (b ∷ bytes) next h e = cc
 
--- the pairs have the names that they had, and those up to an index are what the form says so far
+-- the pairs have the names that they had, and those up to an index are the pairs of the form so far
 pub record ReadSoFar (form : List ℕ) (old pairs : List Pair) (i : ℕ) (rest : List ℕ) : Type 0 where
   pub names_are : names_of_pairs pairs ≡ names_of_pairs old
   pub within : length rest ≤ length form
@@ -215,7 +215,7 @@ module _ (form : List ℕ) (old pairs : List Pair) (i : ℕ) (rest : List ℕ) (
       subst (λ g. IsFormReading form (Ok g)) (ap given_so_far (take_all i pairs done) ∙ some_given pairs some)
       (whole_read (length form) 0 empty form i (given_so_far (take i pairs)) rest s.leads none)
 
--- ---- names that are told apart
+-- ---- names that differ
 
 -- one name more
 pub own_more : (ns : List (List ℕ)) (name : List ℕ) → AreOwnNames ns → name ≢ [] → is_one_of ns name ≡ false → AreOwnNames (ns ++ name ∷ [])
@@ -248,7 +248,7 @@ names_more pairs pair = map-append (λ (p : Pair). p.0.now) pairs (pair ∷ [])
 pub own_first : (pair : Pair) → pair.0.now ≢ [] → AreOwnNames (names_of_pairs (pair ∷ []))
 own_first pair some = own_more [] pair.0.now own_none some refl
 
--- a name that has no number yet is told apart
+-- a name that has no number yet differs from the others
 pub own_pair : (pairs : List Pair) (pair : Pair) → AreOwnNames (names_of_pairs pairs) → pair.0.now ≢ [] →
     contains_key (pair_map pairs) pair.0.now ≡ false → AreOwnNames (names_of_pairs (pairs ++ pair ∷ []))
 own_pair pairs pair own some new =
@@ -311,7 +311,7 @@ places_found reading query ns places some at =
 
 -- ---- the places of a query
 
--- at the indices so far stand the names that are listed so far
+-- at the indices so far are the names that are listed so far
 pub record NumberedSoFar (reading : Reading) (query rest : List ℕ) (count : ℕ) (ns : List (List ℕ)) (places : List ℕ) : Type 0 where
   pub list : List (List ℕ)
   pub listed : ListedSoFar reading query rest count list

@@ -15,7 +15,7 @@ use Rattle.mysql_flat_params.specs.declared.outcome.Outcome.TheVariants.{Done, O
 use Rattle.mysql_flat_params.specs.Outcomes.{HasNoAnswer, IfDone, IfTooLong}
 use Rattle.mysql_flat_params.proofs.LeavesLemmas.{lenenc_within}
 
--- what a reading leaves is an end of the bytes
+-- the bytes that a reading leaves are an end of the bytes
 abbrev IsRest : {X E : Type 0} → List ℕ → Result (X × List ℕ) E → Type 0
 IsRest bytes (Ok read) = (n : ℕ) × (read.1 ≡ drop n bytes)
 IsRest bytes (Err refusal) = ⊤
@@ -131,7 +131,7 @@ module _ (reading : Reading) (query forms old room : List ℕ) (count read writt
       rest = ap (drop (written + len)) is ∙ back_is;
     }
 
-  -- what stands in the room once its part behind the texts is `new`
+  -- the contents of the room once its part behind the texts is `new`
   abbrev room_with : List ℕ → List ℕ
   room_with new = take written room ++ (new ++ drop (length room - written) (drop written room))
 
@@ -163,7 +163,7 @@ module _ (reading : Reading) (query forms old room : List ℕ) (count read writt
         ∙ (length-append (take written room) new
         ∙ omega (arith, same, ap length part_is, front_length, length-drop written room, s.written_in_range)))
 
-    -- what is told of the row after them, if it isn't bound
+    -- the outcome for the row after them, if it isn't bound
     abbrev Told : Outcome → Type 0
     Told outcome = IsRowsOutcomeIn reading query (drop read forms) outcome × IfDone outcome (λ len. len ≡ written)
         × IfTooLong outcome (λ len. length old < written + len) × (new ≡ drop written room)

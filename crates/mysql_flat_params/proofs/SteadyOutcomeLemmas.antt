@@ -1,4 +1,5 @@
--- What an outcome of a call that writes steady literals says, by what the calls below returned.
+-- The meaning of an outcome of a call that writes steady literals, from the results of the calls
+-- below.
 use Rattle.std.specs.Prelude.{Bool, true, Option, Some, None, Ok, option_map, ⊤}
 use Rattle.std.specs.Option.{option_or}
 use Rattle.std.proofs.Common.{◌≡◌, ℕ, List, refl, sym, ◌∙◌, subst}
@@ -25,9 +26,9 @@ use Rattle.mysql_flat_params.specs.declared.outcome.Outcome.TheVariants.{Done, O
 use Rattle.mysql_flat_params.specs.declared.outcome.Outcome.TheVariants as variant
 use Rattle.mysql_steady_text.specs.FirstBackslash.{first_backslash}
 
--- ---- what is told of a query that is refused whatever is given to it
+-- ---- the outcome for a query that is refused with any parameters
 
--- the outcomes that are told of such a query
+-- the outcomes for such a query
 abbrev pub IsQueryRefusal : Outcome → Type 0
 IsQueryRefusal (Unsteady position) = ⊤
 IsQueryRefusal (variant.Unportable number position) = ⊤
@@ -47,12 +48,12 @@ pub is_query_refusal : (wide : Bool) (steadiness : Steadiness) (query : List ℕ
 is_query_refusal wide Anywhere query ts outcome e = told_first IsQueryRefusal variant.Unsteady (λ at. tt) (λ found. tt) (first_unsteady query) (first_unportable (portable_tokens wide ts)) outcome e
 is_query_refusal wide BothModes query ts outcome e = told_first IsQueryRefusal variant.Backslash (λ at. tt) (λ found. tt) (first_backslash ts) (first_unportable (portable_tokens wide ts)) outcome e
 
--- what is told of a byte is told of the query
+-- the outcome for a byte is that of the query
 pub byte_first : (wide : Bool) (steadiness : Steadiness) (query : List ℕ) (ts : List Token) (outcome : Outcome) →
     byte_refusal steadiness query ts ≡ Some outcome → refusal_as wide steadiness query ts ≡ Some outcome
 byte_first wide steadiness query ts outcome e = rw e refl
 
--- nothing is told of the query, in each mode
+-- the query isn't refused on its own, in each mode
 pub none_of : (wide : Bool) (steadiness : Steadiness) (query : List ℕ) (told : Option Outcome) →
     ((mode : Bool) → OnTokensIn (reading_with wide mode) query (λ ts. told ≡ refusal_as wide steadiness query ts)) → told ≡ None →
     (mode : Bool) → OnTokensIn (reading_with wide mode) query (λ ts. refusal_as wide steadiness query ts ≡ None)
@@ -66,7 +67,7 @@ module _ (wide : Bool) (IsBound : Given → List ℕ → Type 0) (refusal : List
   refusal_told given reads (Backslash position) is h = ((given, reads), h)
   refusal_told given reads outcome is h = absurd is
 
-  -- ---- what is refused for what is given to it
+  -- ---- a refusal for the given parameters
 
   module _ (agree : Agree query) (none : (mode : Bool) → OnTokensIn (reading_with wide mode) query (λ ts. refusal ts ≡ None)) where
     either : (cause : Cause) → IsRefusedForIn (reading_with wide true) query form cause → (mode : Bool) → IsRefusedForIn (reading_with wide mode) query form cause

@@ -1,4 +1,4 @@
--- Texts with steady literals in a room that the caller lends.
+-- Texts with steady literals in a room of the caller.
 use Rattle.std.specs.Prelude.{Bool, false, true, Option, Ok, option_map, Result, Err, OnErr}
 use Rattle.std.specs.Option.{option_or}
 use Rattle.std.proofs.Common.{◌≡◌, ℕ, List, Some, None, ap, length, take, refl, sym, ◌∙◌, subst, arith}
@@ -45,7 +45,7 @@ use Rattle.mysql_flat_params.specs.declared.outcome.Outcome.{Outcome}
 use Rattle.mysql_flat_params.specs.declared.outcome.Outcome.TheVariants as variant
 use Rattle.mysql_fragments.proofs.SteadyRoomLemmas.{steady_known}
 
--- ---- a query of which nothing is told
+-- ---- a query that isn't refused on its own
 
 pub none_told : (f : ℕ → Outcome) (byte : Option ℕ) (found : Option Unportable) →
     option_or (option_map f byte) (option_map unportable_outcome found) ≡ None → (byte ≡ None) × (found ≡ None)
@@ -57,7 +57,7 @@ none_told f None None e = (refl, refl)
 pub agree_without_unsteady : (query : List ℕ) → IsSteady query → Agree query
 agree_without_unsteady query steady = let t = tokens_exist true query in (t.0, t.1, no_escapes_of true query t.0 steady t.1)
 
--- what is told of a byte, of the tokens with wide names too
+-- the outcome for a byte, of the tokens with wide names too
 pub byte_told : (wide : Bool) (steadiness : Steadiness) (query : List ℕ) (told : Option Outcome) →
     ((mode : Bool) → OnTokens mode query (λ ts. told ≡ byte_refusal steadiness query ts)) → (mode : Bool) →
     OnTokensIn (reading_with wide mode) query (λ ts. told ≡ byte_refusal steadiness query ts)
@@ -67,7 +67,7 @@ byte_told true BothModes query told t mode =
     let o = t mode in
     (widened o.0, (o.0, o.1, refl), o.2 ∙ ap (option_map variant.Backslash) (sym (first_backslash-widened o.0)))
 
--- what is told of no byte of it, and its first construct that isn't portable, or none, in each mode
+-- no outcome for a byte, and the first construct that isn't portable, or none, in each mode
 pub both_told : (wide : Bool) (steadiness : Steadiness) (query : List ℕ) (told : Option Outcome) (P : List Token → Type 0) →
     ((mode : Bool) → OnTokens mode query (λ ts. told ≡ byte_refusal steadiness query ts)) → Agree query → told ≡ None →
     OnTokensIn (reading_with wide true) query P → (mode : Bool) →
@@ -77,7 +77,7 @@ both_told wide steadiness query told P t agreed none f mode =
     (in_each_reading wide query P agreed f mode) in
     (o.0, o.1, (sym o.2.0 ∙ none, o.2.1))
 
--- what holds is said of an error too
+-- a fact that holds also holds on an error
 pub said_on_err : {T E P : Type 0} (r : Result T E) → P → OnErr r P
 said_on_err (Ok x) p = tt
 said_on_err (Err e) p = p

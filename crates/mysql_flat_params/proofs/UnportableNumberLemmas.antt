@@ -28,7 +28,7 @@ construct_kept ZeroByte = refl
 construct_kept EscapedBackquote = refl
 construct_kept ReturnInComment = refl
 
--- the number stands in 32 bits as it is
+-- the number stays the same in 32 bits
 pub number_kept : (found : Option Unportable) → to_z w32 (of_z w32 (pos (unportable_number found))) ≡ pos (unportable_number found)
 number_kept None = refl
 number_kept (Some found) = construct_kept found.construct

@@ -29,7 +29,7 @@ are_digits : (ds : List ℕ) → AllDigits 10 ds → 0 < length ds → AreDigits
 are_digits [] h some = absurd (omega arith)
 are_digits (d ∷ ds) h some = let r = digit_from_value d h.0 in ((is_digit d r.0 r.1).0, digits_all ds h.1)
 
--- ---- where an `e` stands
+-- ---- the position of an `e`
 
 no_e_in_digits : (ds rest : List ℕ) → AllDigits 10 ds → list_any is_e (ds ++ rest) ≡ list_any is_e rest
 no_e_in_digits [] rest h = refl
@@ -112,7 +112,7 @@ zero_nearest : (f : Format) (negative : Bool) (p : Parts) → IsWellFormed p →
     nearest f negative (with_zero p) ≡ nearest f negative p
 zero_nearest f negative p w e = rw (e, w.no_exponent e) refl
 
--- what is known of a plain number with the exponent put behind it
+-- the facts about a plain number with the exponent put behind it
 pub record IsSameDouble (f : Format) (text : List ℕ) : Type 0 where
   pub same : parse_float f (text ++ 101 ∷ 48 ∷ []) ≡ parse_float f text
   pub shape : IsDouble (text ++ 101 ∷ 48 ∷ [])

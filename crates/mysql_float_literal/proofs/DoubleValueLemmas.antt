@@ -1,4 +1,4 @@
--- What is known of every double by the facts that it holds.
+-- The facts about every double, by those that it holds.
 use Rattle.std.specs.Prelude.{Option}
 use Rattle.std.proofs.Common.{◌≡◌, true, None, Some, refl, sym, true≢false}
 use Rattle.std.specs.Float.{binary64}

@@ -1,4 +1,4 @@
--- A double before a text that doesn't begin with a digit is read as it is read alone.
+-- A double before a text that doesn't begin with a digit is read as it is on its own.
 use Rattle.std.proofs.Common.{◌≡◌, ℕ, ◌+◌, ◌-◌, ◌<◌, ◌++◌, ◌&&◌, Bool, true, false, cond, eqb, List, [], ◌∷◌, length, get_or, slice_range, Some, refl, sym, ap, ◌∙◌, subst, arith, add-zero, append_assoc, length-append, drop_at, take_at, lt-ltb, ne_eqb, true≢false}
 use Rattle.std.proofs.lemmas.Bool.{and_parts}
 use Rattle.std.proofs.lemmas.Str.Parse.{digit_from_value}
@@ -179,7 +179,7 @@ by_parts f x negative point minus whole fraction d ds rest w fr none e ends pars
     let read = read_signed f whole fraction d ds point minus rest (all_digits whole (digits_all whole w)) (all_digits fraction fr) (all_digits exponent (digits_all exponent e)) none (are_some whole w) (no_digit rest ends) negative in
     rw joined (read ∙ (λ i. Some (same i, long i)))
 
--- a double that reads as a float alone reads as it before such a text, and ends there
+-- a double that reads as a float on its own reads as this float before such a text, and ends there
 pub reads_before : (f : Format) (x : Float) {text : List ℕ} → IsDouble text → parse_float f text ≡ Some x →
     (rest : List ℕ) → BeginsWithout is_ascii_digit rest → read_float f (text ++ rest) ≡ Some (x, length text)
 reads_before f x (double_shape _ whole _ _ [] s w fr es e) parsed rest ends = absurd e

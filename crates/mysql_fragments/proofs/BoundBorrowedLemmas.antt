@@ -115,7 +115,7 @@ mixed_told {A = A} reading query survey o error told = (o.0, o.1, λ both. same 
         let it : error ≡ Mixed = cc in
         ap (λ x. Err x) it
 
--- where nothing is told of a query, it has not both
+-- a query without an error doesn't have both names and marks
 pub never_mixed : {A : Type 0} (reading : Reading) (query : List ℕ) (survey : Survey) → OnTokensIn reading query (IsSurvey survey) → (r : Result A FragmentsError) →
     (0 < survey.names → 0 < survey.marks → None ≡ Some Mixed) →
     OnTokensIn reading query (λ ts. HasName ts × HasMark ts → IsErrOf r Mixed)

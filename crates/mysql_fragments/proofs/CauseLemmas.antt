@@ -231,7 +231,7 @@ none_first place (value ∷ values) h =
 pub no_first_float : (fragments : List Fragment) → first_float_from 0 fragments ≡ None → bound.first_float (all_values fragments) ≡ None
 no_first_float fragments h = none_first 0 (all_values fragments) (all_no_float 0 fragments h)
 
--- an error that is told has a cause
+-- an error that is returned has a cause
 pub some_cause : (x y : Option Cause) → Some x ≡ option_map Some y → (why : Cause) × (y ≡ Some why) × (x ≡ Some why)
 some_cause x None e = cc
 some_cause x (Some why) e = (why, refl, cc)

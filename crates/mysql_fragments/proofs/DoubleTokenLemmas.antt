@@ -1,5 +1,5 @@
--- A double, known by its shape alone: its first bytes, which open nothing with the byte before them,
--- and its tokens, which are plain bytes. They end where it ends and are portable, whatever follows.
+-- A double, by its shape only. Its first bytes open nothing with the byte before them. Its tokens
+-- are plain bytes, which end where it ends and are portable before any text.
 use Rattle.std.specs.Prelude.{codes}
 use Rattle.std.proofs.Common.{map, sym, subst, arith, ◌≡◌, ◌++◌, not, ℕ, Bool, true, false, List, [], ◌∷◌, refl, ap, ◌∙◌, append_assoc}
 use Rattle.std.specs.Char.{is_ascii_digit}
@@ -29,9 +29,9 @@ double_opens_nothing (double_shape _ whole fraction exponent_sign exponent minus
     let more : List ℕ = fraction ++ (codes "e" ++ (exponent_sign ++ exponent)) in
     ap (λ x. opens_nothing_after before (dash ∷ x)) (append_assoc whole more rest) ∙ minus_opens_nothing whole w before (more ++ rest)
 
--- ---- plain bytes before whatever follows
+-- ---- plain bytes before any text
 
--- the tokens of this text are its bytes, whatever follows
+-- the tokens of this text are its bytes, before any text
 abbrev pub IsPlainText : Bool → List ℕ → Type 0
 IsPlainText mode text = IsCutBefore mode text (plain_tokens text)
 
@@ -134,7 +134,7 @@ after_whole mode {sign = sign} exponent no_fraction s e = e_then mode (sign ++ e
 after_whole mode {sign = sign} exponent (point_and_digits fraction f) s e =
     point_then mode fraction exponent f s e (e_then mode (sign ++ exponent) (sign_digits mode exponent s e))
 
--- each byte of a double is a token of its own, a plain byte, whatever follows
+-- each byte of a double is a token of its own, a plain byte, before any text
 pub IsDouble-plain : (mode : Bool) {text : List ℕ} → IsDouble text → IsPlainText mode text
 IsDouble-plain mode (double_shape sign whole fraction exponent_sign exponent s w f es e) =
     sign_digits_then mode whole (fraction ++ (byte "e" ∷ (exponent_sign ++ exponent))) s w (after_whole mode exponent f es e)

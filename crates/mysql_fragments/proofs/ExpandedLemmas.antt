@@ -210,7 +210,7 @@ module _ {X : Type 0} (reading : Reading) (write : X → List ℕ) (query rest :
 
 -- ---- the text that is bound to it
 
--- what is known of the fragments of an expanded query
+-- the facts about the fragments of an expanded query
 module _ (as_literals mode : Bool) (ts : List Token) (given : GivenFragments) (text : List ℕ) (x : IsExpanded as_literals mode ts given text) where
   no_later_of : later_cause as_literals ts x.fragments ≡ None
   no_later_of =

@@ -20,7 +20,7 @@ use Rattle.mysql_fragments.proofs.ExpandedLemmas.{SplicedSoFar, spliced_none, pl
 abbrev HasLength : {X : Type 0} → Reading → (X → List ℕ) → List ℕ → List X → ℕ → Type 0
 HasLength reading write query fragments n = OnTokensIn reading query (λ ts. n ≡ length (bound ts (map write fragments)))
 
--- the text is written as far as the index, and has room for what is left
+-- the text is written up to the index, and has room for the rest
 pub record FilledSoFar {X : Type 0} (reading : Reading) (write : X → List ℕ) (query rest : List ℕ) (fragments : List X) (i : ℕ) (text : List ℕ) (at : ℕ) : Type 0 where
   pub so_far : SplicedSoFar reading write query rest fragments i (take at text)
   pub in_range : at ≤ length text
@@ -42,7 +42,7 @@ filled_none reading write query fragments text o room = record {
       );
 }
 
--- what is written so far is no longer than the whole
+-- the text that is written so far is no longer than the whole
 front_fits : {X : Type 0} (reading : Reading) (write : X → List ℕ) (query rest : List ℕ) (fragments : List X) (i : ℕ) (front : List ℕ) (n : ℕ) →
     SplicedSoFar reading write query rest fragments i front → HasLength reading write query fragments n → length front ≤ n
 front_fits reading write query rest fragments i front n s whole =
@@ -55,7 +55,7 @@ front_fits reading write query rest fragments i front n s whole =
       length-append front (bound s.left (drop i (map write fragments))),
     )
 
--- once the fragments are written, the rest of the query is what is missing of the whole
+-- once the fragments are written, only the rest of the query is missing
 whole_text : {X : Type 0} (reading : Reading) (write : X → List ℕ) (query : List ℕ) (fragments : List X) (text : List ℕ) (n : ℕ) →
     OnTokensIn reading query (λ ts. joined_text (pieces ts) (map write fragments) ≡ Some text) →
     HasLength reading write query fragments n → length text ≡ n

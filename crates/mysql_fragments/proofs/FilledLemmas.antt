@@ -254,7 +254,7 @@ module _ (mode : Bool) (write : Value → List ℕ) where
       place_filled fragment fragments list (with_literal_tokens ts lists) _ (map_none _ (fault_of fragment) p.0) a.0 (filled_bound (place + 1) ts fragments lists p.1 a.1 (omega (arith, n)))
   filled_bound place (t ∷ ts) fragments lists h a n = ap (λ u. bytes_of t ++ u) (filled_bound place ts fragments lists h a n)
 
--- ---- what is known of the literals
+-- ---- the facts about the literals
 
 known_written : (literal : Literals) (IsKnown : LiteralFacts) (values : List Value) (place : ℕ) → bound_cause.first_float_from place values ≡ None →
     AreKnownUnlessFloats literal IsKnown values → AreWrittenAs literal IsKnown values (map (written_literal literal) values)
@@ -268,7 +268,7 @@ known_written literal IsKnown (v ∷ values) place none k =
 pub known_of_fields : (literal : Literals) → LackFloats literal → (v : Value) → FieldsInRange v → AreKnownUnlessFloats literal IsOfFields (v ∷ [])
 known_of_fields literal floats v range = ((λ no_float. (has_literal literal floats v no_float, range)), tt)
 
--- what holds in any case, also holds if there is a length
+-- a fact that always holds also holds if there is a length
 pub if_some : {P : Type 0} (r : Option ℕ) → P → IfSome r (λ len. P)
 if_some None p = tt
 if_some (Some len) p = p

@@ -1,4 +1,4 @@
--- A fragment, known by its shape alone: its tokens, and what is known of them.
+-- A fragment, by its shape only: its tokens, and the facts about them.
 use Rattle.std.specs.Prelude.{Bool}
 use Rattle.std.proofs.Common.{◌≡◌, ◌+◌, ◌++◌, ◌==◌, ◌&&◌, ◌||◌, not, ℕ, true, false, List, [], ◌∷◌, if◌then◌else◌, None, arith, inl, inr, refl, ap, ◌∙◌, sym, subst, append-nil, append_assoc, true≢false}
 use Rattle.std.specs.Char.{is_ascii_alphabetic}
@@ -49,7 +49,7 @@ run_ends (b ∷ run) all (c ∷ front) back e =
     let p = and_parts (not_quote b) (list_all not_quote run) all in
     run_ends run p.1 front back cc
 
--- the tokens of the text in backquotes, if this run stands before the name
+-- the tokens of the text in backquotes, if this run is before the name
 pub identifier_tokens : List ℕ → List ℕ → List Token
 identifier_tokens run [] = QuotedIdentifier (run ++ backquote ∷ []) ∷ []
 identifier_tokens run (b ∷ bs) =
@@ -79,7 +79,7 @@ pub record IsQuotedRun (mode : Bool) (run name : List ℕ) (list : List Token) :
   pub run_line : (line : Bool) → line_after line list ≡ false
   pub run_places : place_count list ≡ 0
 
--- the run up to its backquote, if what follows it in the name is nothing or a backquote
+-- the run up to its backquote, if nothing or a backquote follows it in the name
 run_plain : (run ys : List ℕ) → none_or_first (λ c. c == backquote) ys ≡ true → escapes_end (run ++ ys) ≡ false →
     escapes_backquote (run ++ backquote ∷ []) ≡ false
 run_plain [] ys f h = refl
@@ -90,7 +90,7 @@ run_plain (b ∷ c ∷ run) ys f h =
     let p = or_parts (b == byte "\\" && c == backquote) (escapes_end (c ∷ (run ++ ys))) h in
     false_if (not (b == backquote)) _ (λ e. or_from _ _ p.0 (run_plain (c ∷ run) ys f p.1))
 
--- what follows a byte of a name
+-- the rest of a name after a byte
 later_plain : (run : List ℕ) (b : ℕ) (bs : List ℕ) → escapes_end (run ++ b ∷ bs) ≡ false → escapes_end bs ≡ false
 later_plain [] b bs h = (or_parts (b == byte "\\" && none_or_first (λ c. c == backquote) bs) (escapes_end bs) h).1
 later_plain (x ∷ run) b bs h =
@@ -315,7 +315,7 @@ and_false : (a : Bool) → (a && false) ≡ false
 and_false true = refl
 and_false false = refl
 
--- after what may stand before a place, a letter opens nothing
+-- after a byte that may be before a place, a letter opens nothing
 letter_opens : (before b : ℕ) (bs : List ℕ) → is_ascii_alphabetic b ≡ true → may_stand_before before ≡ true →
     opens_nothing_after before (b ∷ bs) ≡ true
 letter_opens before b bs l h =
@@ -364,7 +364,7 @@ list_list mode n k a b us vs x y = record {
 abbrev pub equals_then : List Token → List Token
 equals_then list = Plain (byte " ") ∷ Plain (byte "=") ∷ Plain (byte " ") ∷ list
 
--- a column, ` = ` and what it is set to
+-- a column, ` = ` and the item that it is set to
 pub assignment_list : (mode : Bool) (n : ℕ) (a b : List ℕ) (us vs : List Token) → IsFragmentList mode 0 a us →
     IsFragmentList mode n b vs → IsFragmentList mode n (a ++ (byte " " ∷ byte "=" ∷ byte " " ∷ b)) (us ++ equals_then vs)
 assignment_list mode n a b us vs x y = record {

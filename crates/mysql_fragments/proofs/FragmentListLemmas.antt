@@ -1,6 +1,6 @@
--- What is known of the tokens of a fragment: they end where it ends, in a place that stands alone its first
--- bytes open nothing and its tokens are portable, and the places that it brings stand alone too. This of a mark,
--- a literal and numbers.
+-- The facts about the tokens of a fragment. They end where it ends. In a place that stands alone
+-- its first bytes open nothing, and its tokens are portable. The places that it brings stand alone
+-- too. This file proves them for a mark, a literal and numbers.
 use Rattle.std.specs.Prelude.{Bool}
 use Rattle.std.proofs.Common.{◌≡◌, ◌++◌, ◌||◌, not, ℕ, true, false, List, [], ◌∷◌, None, arith, refl, ap, ◌∙◌, sym, append_assoc, true≢false}
 use Rattle.std.specs.Char.{is_ascii_digit}
@@ -26,8 +26,8 @@ use Rattle.mysql_sql_text.proofs.DigitLemmas.{digits_all}
 use Rattle.mysql_binding.proofs.RenamedPlaceLemmas.{if_alone}
 use Rattle.mysql_named_params.proofs.FoundPlaceLemmas.{names-no_place}
 
--- ---- texts that may stand before a place (these two stand in mysql_binding's RenamedPlaceLemmas too,
--- which doesn't lend them)
+-- ---- texts that may be before a place (mysql_binding's RenamedPlaceLemmas has these two too, but
+-- doesn't export them)
 
 -- the places of the list stand alone if it does, before tokens whose places do
 abbrev pub StandAlone : List Token → Type 0
@@ -36,7 +36,7 @@ StandAlone list = (more : List Token) → none_or_first may_stand_after (text_of
     (place : ℕ) (before : List ℕ) → none_or_last may_stand_before before ≡ true →
     first_not_alone_from place before (list ++ more) ≡ None
 
--- what is known of the tokens of a fragment with this number of marks
+-- the facts about the tokens of a fragment with this number of marks
 pub record IsFragmentList (mode : Bool) (n : ℕ) (text : List ℕ) (list : List Token) : Type 0 where
   pub list_text : text_of list ≡ text
   pub list_tokens : (rest : List ℕ) → AreTokensBefore mode rest list
@@ -102,7 +102,7 @@ literal_list mode literal h =
 abbrev dot : ℕ
 dot = point
 
--- what may stand after a place goes on with no fraction
+-- a text that may follow a place doesn't continue with a fraction
 no_fraction : (rest : List ℕ) → none_or_first may_stand_after rest ≡ true → begins_fraction rest ≡ false
 no_fraction [] h = refl
 no_fraction (b ∷ rest) h =

@@ -1,4 +1,4 @@
--- To insert into a hash map of fragments is to insert into the finite map that it stands for.
+-- An insertion into a hash map of fragments is an insertion into its finite map.
 use Rattle.std.proofs.Common.{◌≡◌, ℕ, cond, List, refl, sym, ap, ◌∙◌}
 use Rattle.std.specs.Prelude.{Some}
 use Rattle.std.specs.Global.{Vec}

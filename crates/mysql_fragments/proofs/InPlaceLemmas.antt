@@ -183,7 +183,7 @@ module _ (mode : Bool) where
 
   -- ---- each fragment
 
-  -- before whatever may follow a place
+  -- before any text that may follow a place
   Reads : Fragment → Type 0
   Reads fragment = (rest : List ℕ) → none_or_first may_stand_after rest ≡ true → ReadsAsItself mode fragment (filled_text write fragment) rest
 
@@ -280,7 +280,7 @@ module _ (mode : Bool) where
       (placed ts (place + 1) (before ++ bytes_of Mark) [] fragments p.1 r.1 same)
   placed (t ∷ ts) place before piece fragments a r l = placed ts place (before ++ bytes_of t) (piece ++ bytes_of t) fragments a r l
 
-  -- the literals of values are what is written of these
+  -- the literals of values are the texts that are written for them
   literals_written : (values : List Value) (literals : List (List ℕ)) → AreLiteralsOf mode values literals → literals ≡ map write values
   literals_written [] [] e = refl
   literals_written [] (literal ∷ literals) e = cc

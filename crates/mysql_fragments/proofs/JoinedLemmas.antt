@@ -16,7 +16,7 @@ before_first separator i e = rw (eq-eqb i 0 e) refl
 before_next : (separator : List ℕ) (i : ℕ) → 0 < i → separator_before separator i ≡ separator
 before_next separator i below = rw (ne_eqb i 0 (λ e. absurd (omega (arith, e, below)))) refl
 
--- after what stands before it
+-- after the texts before it
 pub joined_next : {X : Type 0} (separator : List ℕ) (f : X → List ℕ) (xs : List X) (i : ℕ) (x : X) →
     i < length xs → x ≡ get_or xs i x →
     joined separator (map f (take (i + 1) xs)) ≡ joined separator (map f (take i xs)) ++ (separator_before separator i ++ f x)
@@ -62,7 +62,7 @@ joined_len separator f xs i x below x_is =
     ap length (joined_next separator f xs i x below x_is)
     ∙ omega (arith, length-append so_far (separator_before separator i ++ f x), length-append (separator_before separator i) (f x))
 
--- what is written so far and the next text are no longer than all texts
+-- the text that is written so far and the next text are no longer than all texts
 pub joined_fits : {X : Type 0} (separator : List ℕ) (f : X → List ℕ) (xs : List X) (i : ℕ) (x : X) →
     i < length xs → x ≡ get_or xs i x →
     length (joined separator (map f (take i xs))) + (length (separator_before separator i) + length (f x)) ≤ length (joined separator (map f xs))

@@ -22,14 +22,14 @@ use Rattle.mysql_params_core.proofs.BorrowedLemmas.{take-referents, referents-pu
 use Rattle.mysql_fragments.specs.declared.fragment.Fragment.{Fragment}
 use Rattle.mysql_fragments.specs.GivenFragments.{FragmentMap, GivenFragments, by_bytes, fragment_map, fragments_at, fragments_for, missing, confused, named, positional, with_first}
 
--- a search by the names' order finds what a search by their bytes finds
+-- a search by the names' order finds the same as a search by their bytes
 find-lookup : (es : List (Vec ℕ × Fragment)) (q : List ℕ) → find (slice_cmp nat_cmp) q (map by_bytes es) ≡ lookup (λ k. pointwise nat_eq q k.items) es
 find-lookup [] q = refl
 find-lookup (e ∷ es) q =
     ap (λ b. cond b (Some e.1) (find (slice_cmp nat_cmp) q (map by_bytes es))) (sym (lists_ties nat_cmp unsigned_ties q e.0.items))
     ∙ ap (cond (pointwise nat_eq q e.0.items) (Some e.1)) (find-lookup es q)
 
--- what the map has at a name
+-- the entry of the map at a name
 pub get-fragment_map : (es : List (Vec ℕ × Fragment)) (q : List ℕ) → get (fragment_map es) q ≡ lookup (λ k. pointwise nat_eq q k.items) es
 get-fragment_map es q = get-from_entries nat_list_cmp_total _ q ∙ find-lookup es q
 
@@ -113,7 +113,7 @@ module _ {A E : Type 0} (fragments : A → List Fragment) (reading : Reading) (q
       (o.0, o.1, named_some given m (names o.0) e (λ z. some (sym same ∙ z)) ∙ o.2)
   named_on (Err error) c o = tt
 
--- an error of the fragments by name is one of what is given
+-- an error of the fragments by name is one of the given fragments
 pub named_told : {A : Type 0} (reading : Reading) (query : List ℕ) (given : GivenFragments) (m : FragmentMap) → given ≡ named m →
     (count : ℕ) → (count ≡ 0 → ⊥) → OnTokensIn reading query (λ ts. count ≡ length (names ts)) → (r : Result A FragmentsError) →
     IfErr r (λ error. OnTokensIn reading query (λ ts. IsPlaceRefusal (fragments_at m (names ts)) error)) →

@@ -1,4 +1,5 @@
--- An identifier and an exact number read back as themselves, whatever may follow a place.
+-- An identifier and an exact number read back as themselves, before any text that may follow a
+-- place.
 use Rattle.std.specs.Prelude.{Bool, codes, option_map, pos, neg_ℤ}
 use Rattle.std.specs.Char.{is_ascii_digit}
 use Rattle.std.specs.List.{list_all}
@@ -19,7 +20,7 @@ use Rattle.mysql_fragments.specs.ReadFragment.{is_backquote, is_point, with_byte
 use Rattle.mysql_sql_text.proofs.DigitLemmas.{digits_all}
 use Rattle.mysql_sql_text.proofs.ReadNaturalLemmas.{numeral_model, value_after, read_digits-append}
 
--- ---- what may follow a place
+-- ---- texts that may follow a place
 
 may_follow : (test : ℕ → Bool) → ((b : ℕ) → may_stand_after b ≡ true → test b ≡ false) → (rest : List ℕ) →
     none_or_first may_stand_after rest ≡ true → BeginsWithout test rest
@@ -104,7 +105,7 @@ after_whole : (n : ℕ) (rest : List ℕ) → BeginsWithout is_point rest → re
 after_whole n [] h = refl
 after_whole n (b ∷ rest) h = rw h refl
 
--- digits, and a point with digits after it, before what may follow a place
+-- digits, and a point with digits after it, before a text that may follow a place
 whole_read : (ds rest : List ℕ) → AreDigits ds → none_or_first may_stand_after rest ≡ true →
     read_unsigned (ds ++ rest) ≡ Some ((digits_value 10 ds, 0), rest)
 whole_read ds rest d h =

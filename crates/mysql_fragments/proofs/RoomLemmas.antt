@@ -1,4 +1,4 @@
--- A text of fragments in a room that the caller lends, and its length.
+-- A text of fragments in a room of the caller, and its length.
 use Rattle.std.specs.Prelude.{Bool}
 use Rattle.std.specs.List.{flat_map, sum_by}
 use Rattle.std.proofs.Common.{◌≡◌, ◌+◌, ◌++◌, ◌≤◌, ◌^◌, ℕ, true, List, [], length, map, take, drop, take_all, Some, arith, sym, ap, ◌∙◌, subst}

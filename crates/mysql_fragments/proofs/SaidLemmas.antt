@@ -1,4 +1,5 @@
--- What the fragments that borrowed ones say have in common with these: texts, values, floats, faults.
+-- Borrowed fragments and the fragments of the same content have the same texts, values, floats and
+-- faults.
 use Rattle.std.specs.Prelude.{codes, Some, None, option_map, ⊤}
 use Rattle.std.specs.Global.{Vec}
 use Rattle.std.specs.List.{flat_map, list_any}
@@ -21,7 +22,7 @@ use Rattle.mysql_fragments.specs.declared.fragment.Fragment.{Fragment}
 use Rattle.mysql_fragments.specs.declared.fragment_ref.FragmentRef.{FragmentRef}
 use Rattle.mysql_fragments.specs.declared.fragment_ref.FragmentRef.TheVariants as borrowed
 
--- what is made of each row
+-- the result for each row
 same_rows : {Y : Type 0} (g : List Item → Y) (rows : List (Vec Item)) (cells : List (List ValueRef)) →
     map (λ row. row.items) rows ≡ map (map cell_item) cells →
     map (λ row. g row.items) rows ≡ map (λ row. g (map cell_item row)) cells

@@ -1,5 +1,5 @@
--- A fragment whose text stands in one line is sent as it is by a client, if it begins with no keyword or stands
--- behind the front of a list.
+-- A client sends a fragment whose text is in one line as it is, if it begins with no keyword or
+-- isn't the first of a list.
 use Rattle.std.specs.Prelude.{Bool, codes, nat_lt}
 use Rattle.std.proofs.Common.{◌≡◌, ◌++◌, ◌==◌, not, ℕ, true, false, List, [], ◌∷◌, None, arith, inl, inr, refl, ap, ◌∙◌, sym, subst, true≢false}
 use Rattle.std.specs.Char.{is_ascii_alphabetic, to_ascii_lowercase}

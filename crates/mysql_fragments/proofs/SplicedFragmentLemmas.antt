@@ -37,7 +37,7 @@ use Rattle.mysql_binding.proofs.SentLiteralLemmas.{sent_alone}
 use Rattle.mysql_binding.proofs.SentTextLemmas.{IsSentAt, spliced_sent}
 use Rattle.mysql_binding.proofs.RenamedPlaceLemmas.{last-append, name_last, as_well-append, first_not_alone-with_marks}
 
--- the tokens of a fragment, read alone
+-- the tokens of a fragment, read on its own
 pub fragment_list : (mode : Bool) (n : ℕ) (text : List ℕ) (list : List Token) → IsFragment mode n text →
     IsTokens mode text list → IsFragmentList mode n text list
 fragment_list mode n text list h u =
@@ -191,7 +191,7 @@ fragments_marks mode (t ∷ ts) counts texts lists s a l = fragments_marks mode 
 abbrev EndsAsWell : List ℕ → List ℕ → Type 0
 EndsAsWell before after = none_or_last may_stand_before before ≡ true → none_or_last may_stand_before after ≡ true
 
--- what ends in a name may not stand before a place
+-- a text that ends in a name may not be before a place
 name_ends : (xs name : List ℕ) → IsWideName name → none_or_last may_stand_before (xs ++ colon ∷ name) ≡ true → ⊥
 name_ends xs [] is h = absurd is
 name_ends xs (b ∷ bs) is h =

@@ -1,5 +1,5 @@
--- A query with fragments in its places is steady if and only if its pieces and the texts of its fragments
--- are; and what is promised of the text that is bound to it.
+-- A query with fragments in its places is steady if and only if its pieces and the texts of its
+-- fragments are. The promises about the text that is bound to it.
 use Rattle.std.specs.Prelude.{Bool, Result, Ok, Err, IfOk, IfErr, ⊤}
 use Rattle.std.specs.List.{list_all}
 use Rattle.std.specs.Option.{is_some}
@@ -183,12 +183,12 @@ module _ (wide : Bool) (query : List ℕ) (given : GivenFragments) (fragments : 
   place_told place e =
       (p.0, p.1, (first_by true p.0 given fragments None p.2.unmixed p.2.given_to_places p.2.no_later, ap unsteady_place p.2.given_to_places ∙ sym e))
 
--- what holds of the tokens of a steady query in one mode holds of them in each
+-- a fact about the tokens of a steady query in one mode holds in each mode
 pub in_either : (wide : Bool) (query : List ℕ) (P : List Token → Type 0) (mode other : Bool) → IsSteady query →
     OnTokensIn (reading_with wide mode) query P → OnTokensIn (reading_with wide other) query P
 in_either wide query P mode other steady o = (o.0, steady_reading wide mode other query o.0 steady o.1, o.2)
 
--- what nothing is said of
+-- a query has tokens
 pub nothing_read : (wide mode : Bool) (query : List ℕ) → OnTokensIn (reading_with wide mode) query (λ ts. ⊤)
 nothing_read wide mode query = let t = reading_exists (reading_with wide mode) query in (t.0, t.1, tt)
 

@@ -1,4 +1,4 @@
--- The text for any mode, and for any server, of a query with fragments, in a room that the caller lends.
+-- The text for any mode, and for any server, of a query with fragments, in a room of the caller.
 use Rattle.std.specs.Prelude.{Bool, false, IfSome}
 use Rattle.std.proofs.Common.{◌≡◌, ℕ, true, List, None, Some, subst}
 use Rattle.mysql_values.specs.Value.{FieldsInRange}
@@ -23,7 +23,7 @@ use Rattle.mysql_steady_text.specs.SteadyLiterals.{IsSteadyFor}
 use Rattle.mysql_fragments.specs.SteadyFragments.{IsSteadyFragments, first_unsteady_from}
 use Rattle.mysql_fragments.proofs.SteadyFragmentLemmas.{steady_fragments_on}
 
--- the query is bound to what is given, for any mode, by wide names or by those of the grammar
+-- the query is bound to the given fragments, for any mode, by wide names or by those of the grammar
 abbrev pub BoundSteadily : (wide : Bool) → List ℕ → GivenFragments → List ℕ → Type 0
 BoundSteadily wide query given text = (mode : Bool) → OnTokensIn (reading_with wide mode) query (λ ts. IsSteadyFragments ts given text)
 

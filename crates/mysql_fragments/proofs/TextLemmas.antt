@@ -48,12 +48,12 @@ flat_step f xs i x old text text1 below x_is e e1 =
     e1 ∙ (ap (λ u. u ++ f x) e ∙ (append_assoc old (flat_map f (take i xs)) (f x)
     ∙ ap (λ u. old ++ u) (sym (ap (flat_map f) taken ∙ flat_map_more f (take i xs) x))))
 
--- what a reference of a list refers to
+-- the referent of a reference in a list
 pub referent_is : {X : Type 0} (rs : List (Bor X)) (i : ℕ) (r : Bor X) → i < length rs → r ≡ get_or rs i r →
     r.now ≡ get_or (referents rs) i r.now
 referent_is rs i r below is = ap (λ x. x.now) is ∙ sym (get_or-map (λ x. x.now) rs i r r.now below)
 
--- one element more of what references refer to
+-- one more element among the referents
 pub flat_step_referents : {X Y : Type 0} (f : X → List Y) (rs : List (Bor X)) (i : ℕ) (r : Bor X) (old text text1 : List Y) →
     i < length rs → r ≡ get_or rs i r → text ≡ old ++ flat_map f (take i (referents rs)) → text1 ≡ text ++ f r.now →
     text1 ≡ old ++ flat_map f (take (i + 1) (referents rs))
@@ -101,7 +101,7 @@ pub once : (b : ℕ) (text text1 : List ℕ) → b ≢ backquote → text1 ≡ t
     text1 ≡ text ++ doubled (b ∷ [])
 once b text text1 n e1 = rw (ne_eqb b backquote n) e1
 
--- a text still begins with what stood before, also after an error
+-- a text still begins with its old bytes, also after an error
 pub still_begins : {T E : Type 0} (r : Result T E) (old written before next new : List ℕ) → before ≡ old ++ written →
     StartsWith next before → StartsWith new next → OnErr r (StartsWith new old)
 still_begins (Ok x) old written before next new is begun more = tt

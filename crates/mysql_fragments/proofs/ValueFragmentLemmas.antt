@@ -123,7 +123,8 @@ none_mapped : (x : Option bound.Cause) → option_map same_cause x ≡ None → 
 none_mapped None e = refl
 none_mapped (Some why) e = cc
 
--- what is bound by position to the query with marks is bound to the query, if its names give these values
+-- a text that is bound by position to the query with marks is bound to the query, if its names give
+-- these values
 from_marks : (mode : Bool) (ts : List Token) (params : Given) (values : List Value) (text : List ℕ) →
     lookup params (names ts) ≡ Ok values → bound.first_cause ts params ≡ None →
     IsBoundText mode (with_marks ts) (positional values) text → IsBoundText mode ts params text

@@ -1,5 +1,5 @@
--- What is promised of the text that is bound to fragments by wide names, for any server: by the query
--- with its names in lower case.
+-- The promises about the text that is bound to fragments by wide names, for any server, by the
+-- query with its names in lower case.
 use Rattle.std.specs.Prelude.{Bool, Result, Ok, Err, IfOk, IfErr}
 use Rattle.std.specs.List.{list_all}
 use Rattle.std.proofs.Common.{◌≡◌, ◌∙◌, ℕ, true, false, List, [], Some, None, Option, inr, map, ap, sym, subst}

@@ -1,4 +1,4 @@
--- What the number of an outcome says, as C has it.
+-- The meaning of the number of an outcome, as C gets it.
 use Rattle.std.proofs.Common.{◌≡◌, ℕ, pos, of_z, refl, to_z, w32}
 use Rattle.mysql_flat_params.specs.Outcomes.{IfDone, number_of, report_of}
 use Rattle.mysql_flat_params.specs.declared.outcome.Outcome.{Outcome}
@@ -10,7 +10,7 @@ use Rattle.mysql_flat_params.specs.PlaceTable as table
 use Rattle.mysql_flat_params.specs.declared.place_table.TableOutcome.{TableOutcome}
 use Rattle.mysql_flat_params.specs.declared.place_table.TableOutcome.TheVariants.{AsQuery, OtherTable}
 
--- the number of an outcome stands in 32 bits as it is
+-- the number of an outcome stays the same in 32 bits
 pub number_kept : (outcome : Outcome) → to_z w32 (of_z w32 (pos (number_of outcome))) ≡ pos (number_of outcome)
 number_kept (Done len) = refl
 number_kept OutOfMemory = refl

@@ -1,4 +1,4 @@
--- What the program writes, from what it parsed.
+-- The output of the program, from the parsed query.
 use Rattle.std.proofs.Common.{◌≡◌, ◌⊎◌, ◌∷◌, ℕ, List, Ok, Err, inl, inr, sym, ap, ◌∙◌, subst}
 use Rattle.std.specs.Prelude.{Bool, false, Result, IsErrAnd, alloc_error}
 use Rattle.mysql_io.specs.declared.readers_and_writers.ReadError.{ReadError}
@@ -13,7 +13,7 @@ use Rattle.mysql_query_core.specs.declared.run_error.RunError.TheVariants.{Read,
 use Rattle.mysql_named_params.proofs.TokenListLemmas.{one_token_list}
 use Rattle.mysql_binding.proofs.CauseLemmas.{has_both-not}
 
--- the lines of a parsed query are what `names` writes
+-- the lines of a parsed query are the output of `names`
 pub names_output_is : (mode : Bool) (query text : List ℕ) (p : Parsed) (ts us : List Token) →
     IsTokens mode query ts → p ≡ parsed ts → IsTokens mode query us → (HasName us × HasMark us → ⊥) →
     text ≡ lines_of (p.query ∷ p.params) → names_output ts ≡ Ok text

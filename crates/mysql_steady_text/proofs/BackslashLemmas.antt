@@ -211,7 +211,7 @@ pub record PassedSoFar (mode : Bool) (query rest : List ℕ) : Type 0 where
 pub passed_none : (mode : Bool) (query : List ℕ) → PassedSoFar mode query query
 passed_none mode query = record { tokens = []; cut = cut_none mode query; none = refl }
 
--- what is found after tokens without a backslash
+-- the position that is found after tokens without a backslash
 after_none : (ts us : List Token) (n : ℕ) → first_backslash_from n ts ≡ None →
     first_backslash_from n (ts ++ us) ≡ first_backslash_from (n + length (text_of ts)) us
 after_none [] us n e = let same : n ≡ n + 0 = omega arith in ap (λ i. first_backslash_from i us) same
@@ -220,7 +220,7 @@ after_none (t ∷ ts) us n e =
     let same : n + length (bytes_of t) + length (text_of ts) ≡ n + length (bytes_of t ++ text_of ts) = omega (arith, length-append (bytes_of t) (text_of ts)) in
     rw p.0 (after_none ts us (n + length (bytes_of t)) p.1 ∙ ap (λ i. first_backslash_from i us) same)
 
--- what is told of the bytes of a token
+-- the answer for the bytes of a token
 string_quote_is : (b : ℕ) → is_string_quote b ≡ true → is_backslash b ≡ false
 string_quote_is b h = grind (arith, h)
 
@@ -240,7 +240,7 @@ told (Plain b) rest mode h found s o = go (is_string_quote b) refl
     go true q = s q ∙ (position_from-zero is_backslash (b ∷ []) ∙ rw (string_quote_is b q) refl)
     go false q = o q
 
--- what the code finds in the bytes of the first token
+-- the position that the code finds in the bytes of the first token
 abbrev pub IsTold : List ℕ → Option ℕ → Type 0
 IsTold bytes found =
     (begins is_string_quote bytes ≡ true → found ≡ position is_backslash bytes)

@@ -1,5 +1,5 @@
--- What holds of a text for both modes: no place is left in it, bound again it stays as it is, bound by
--- position it is the same, and equal texts say the same.
+-- Facts about a text for both modes: no place is left in it, bound again it stays as it is, bound
+-- by position it is the same, and equal texts have the same contents.
 use Rattle.std.specs.Prelude.{Bool}
 use Rattle.std.proofs.Common.{◌≡◌, ◌+◌, ℕ, true, List, [], length, map, sym, ap, ◌∙◌, subst, arith, Some}
 use Rattle.std.proofs.lemmas.List.{nil_from_length}

@@ -1,4 +1,4 @@
--- What `bind_text_in_both_modes` promises, from what its parts promise in one mode.
+-- The promises of `bind_text_in_both_modes`, from those of its parts in one mode.
 use Rattle.std.specs.Prelude.{Bool, Result, Ok, Err, IfOk}
 use Rattle.std.proofs.Common.{◌≡◌, ℕ, true, List, Option, None, sym, ◌∙◌}
 use Rattle.mysql_named_params.specs.Tokens.{Token, OnTokens}
@@ -27,7 +27,7 @@ pub agree : (query : List ℕ) (found : Option ℕ) → OnTokens true query (λ 
     Agree query
 agree query found o none = (o.0, o.1, hold_no_escapes o.0 0 (sym o.2 ∙ none))
 
--- what holds of the tokens of such a query in the one mode holds of them in each
+-- a fact about the tokens of such a query in the one mode holds in each mode
 pub in_each_mode : (query : List ℕ) (P : List Token → Type 0) → Agree query → OnTokens true query P → (mode : Bool) →
     OnTokens mode query P
 in_each_mode query P none o mode =

@@ -1,5 +1,5 @@
--- The text that is written with steady literals in the places of a query is what is promised for both
--- modes, if no backslash stands in a string of the query.
+-- The text that is written with steady literals in the places of a query is the promised one for
+-- both modes, if no string of the query has a backslash.
 use Rattle.std.specs.Prelude.{Bool, IsSomeAnd, Result, Ok, Err, IsErrAnd, ⊤}
 use Rattle.std.proofs.Common.{◌≡◌, ◌++◌, ℕ, true, List, [], ◌∷◌, map, length, Option, Some, None, refl, sym, ap, ◌∙◌, subst}
 use Rattle.std.specs.List.{list_all}
@@ -34,7 +34,7 @@ use Rattle.mysql_steady_text.specs.SteadyLiterals.{AreSteadyLiterals, IsSteadyFo
 use Rattle.mysql_steady_text.specs.BothModesText.{IsTextInBothModes, IsPortableInBothModes}
 use Rattle.mysql_steady_text.proofs.SteadySpliceLemmas.{steady_lists, tokens_of_other, steady_isolated, steady_places, steady_portable, steady_on, steady_read}
 
--- ---- what is known of the literals
+-- ---- the facts about the literals
 
 steady_shapes : (values : List Value) (texts : List (List ℕ)) → AreWrittenAs steady_literal_of IsSteadyFor values texts →
     AreSteadyLiterals texts
@@ -65,7 +65,7 @@ contents_of_all (v ∷ values) (text ∷ texts) h = one (content_of v) refl h.1.
       reads = λ mode. (r mode, more.reads mode);
     }
 
--- ---- no backslash stands in a string of the text
+-- ---- no string of the text has a backslash
 
 no_escapes_both : (ts us : List Token) → HoldNoEscapes ts → HoldNoEscapes us → HoldNoEscapes (ts ++ us)
 no_escapes_both [] us h k = k
@@ -163,7 +163,7 @@ portable_in_both query ts given text is p t =
 
 -- ---- as the calls promise it
 
--- what nothing is said of
+-- a query has tokens
 pub nothing_said : (mode : Bool) (query : List ℕ) → OnTokens mode query (λ ts. ⊤)
 nothing_said mode query = let t = tokens_exist mode query in (t.0, t.1, tt)
 

@@ -1,4 +1,4 @@
--- What is refused before parameters are made of pairs is a refusal of binding them.
+-- A refusal before parameters are made of pairs is a refusal of binding them.
 use Rattle.std.proofs.Common.{ℕ, List, inl}
 use Rattle.std.specs.Borrow.{Bor}
 use Rattle.mysql_values.specs.declared.value.ValueRef.{ValueRef}

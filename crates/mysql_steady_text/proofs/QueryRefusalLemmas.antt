@@ -1,4 +1,4 @@
--- The refusal of a query, whatever is given to it.
+-- The refusal of a query with any parameters.
 use Rattle.std.specs.Prelude.{Bool}
 use Rattle.std.proofs.Common.{◌≡◌, ℕ, true, false, List, Option, Some, None, refl, ap, ◌∙◌}
 use Rattle.mysql_named_params.specs.Tokens.{Token, IsTokens}
@@ -38,7 +38,7 @@ none_by (Some at) found e = cc
 none_by None (Some found) e = cc
 none_by None None e = (refl, refl)
 
--- what isn't refused is steady and portable
+-- a query that isn't refused is steady and portable
 pub passed : (query : List ℕ) (ts : List Token) → None ≡ query_refusal query ts →
     (first_unsteady query ≡ None) × (first_unportable ts ≡ None)
 passed query ts e = none_by (first_unsteady query) (first_unportable ts) e
@@ -49,7 +49,7 @@ passed_is_steady query ts e = (none_unsteady query).0 ((passed query ts e).0)
 pub passed_is_portable : (query : List ℕ) (ts : List Token) → None ≡ query_refusal query ts → IsPortable ts
 passed_is_portable query ts e = none_is_portable ts ((passed query ts e).1)
 
--- what is refused is refused as it is told
+-- a query that is refused has the reported refusal
 pub refused_so : (query : List ℕ) (ts : List Token) (cause : Option Cause) (e : SteadyTextError) →
     Some e ≡ query_refusal query ts → IsSteadyRefusal query (first_unportable ts) cause e
 refused_so query ts cause e = go (first_unsteady query) (first_unportable ts) refl e

@@ -1,5 +1,6 @@
--- What holds of a steady text, since it is a text for both modes: no place is left in it, bound again it
--- stays as it is, bound by position it is the same, and equal texts say the same.
+-- Facts about a steady text, because it is a text for both modes: no place is left in it, bound
+-- again it stays as it is, bound by position it is the same, and equal texts have the same
+-- contents.
 use Rattle.std.specs.Prelude.{Bool, Result, Ok, Err, IfOk}
 use Rattle.std.proofs.Common.{◌≡◌, ℕ, List, map}
 use Rattle.mysql_values.specs.Content.{content_of}

@@ -40,7 +40,7 @@ some_byte : (bytes : List ℕ) → list_all is_spelled_out bytes ≡ false → 0
 some_byte [] h = absurd (true≢false h)
 some_byte (b ∷ bytes) h = omega arith
 
--- what holds of the three forms of the literal of bytes holds of it
+-- a fact about the three forms of the literal of bytes holds for the literal
 by_form : (P : List ℕ → Type 0) (bytes : List ℕ) →
     (list_all is_spelled_out bytes ≡ true → P (codes "_utf8mb4" ++ quoted (escaped true bytes))) →
     (0 < length bytes → P (codes "_utf8mb4 0x" ++ hexadecimal bytes)) →
@@ -138,7 +138,7 @@ steady_bytes (Date y m d h i s u) r =
 steady_bytes (Time n d h m s u) r =
     clock_text_steady (time_text n d h m s u) (IsClockText-time_text n d h m s u (omega arith) (omega arith) (omega arith) (omega arith))
 
--- ---- it stands in one line
+-- ---- it is in one line
 
 spelled_out_in_line : (b : ℕ) → is_spelled_out b ≡ true → is_in_line b ≡ true
 spelled_out_in_line b h = grind (arith, nat_tests)

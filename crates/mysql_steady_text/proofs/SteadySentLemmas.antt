@@ -1,4 +1,4 @@
--- Steady literals that stand in one line are sent as they are.
+-- Steady literals that are in one line are sent as they are.
 use Rattle.std.specs.Prelude.{Bool, codes}
 use Rattle.std.specs.List.{list_all}
 use Rattle.std.proofs.Common.{◌≡◌, ◌++◌, ℕ, true, List, [], ◌∷◌, None, Some, refl, ◌∙◌}

@@ -68,7 +68,7 @@ IsSteadyLiteral-cut (introduced_pairs pairs h) =
     both_cut true (codes "_utf8mb4") (codes " " ++ (codes "0x" ++ pairs)) (introducer_cut true)
     (both_cut true (codes " ") (codes "0x" ++ pairs) (_, space_cut true) (IsLiteral-cut true (hexadecimal_literal pairs h)))
 
--- a steady text without a backslash has the same tokens in both modes, whatever follows
+-- a steady text without a backslash has the same tokens in both modes, before any text
 cut_in : (mode : Bool) (literal : List ℕ) (ts : List Token) → list_all is_steady literal ≡ true →
     IsCutBefore true literal ts → IsCutBefore mode literal ts
 cut_in mode literal ts s c = record {
@@ -78,7 +78,7 @@ cut_in mode literal ts s c = record {
   cut_places = c.cut_places;
 }
 
--- the tokens of a steady literal end where it ends, whatever follows
+-- the tokens of a steady literal end where it ends, before any text
 literal_tokens : (mode : Bool) (literal : List ℕ) (ts : List Token) → IsSteadyLiteral literal →
     list_all is_steady literal ≡ true → IsTokens mode literal ts → IsCutBefore mode literal ts
 unfolding HasCut

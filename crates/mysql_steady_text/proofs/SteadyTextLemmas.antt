@@ -1,4 +1,5 @@
--- The text that is written with steady literals in the places of a steady query is what is promised.
+-- The text that is written with steady literals in the places of a steady query is the promised
+-- one.
 use Rattle.std.specs.Prelude.{Bool, Result, Ok, Err, IfOk, IfErr}
 use Rattle.std.proofs.Common.{◌≡◌, ℕ, true, false, List, Option, None, sym, subst}
 use Rattle.std.specs.List.{list_all}
@@ -101,7 +102,7 @@ is_anywhere_text query ts given text is steady p t =
 
 -- ---- as the calls promise it
 
--- what holds of the tokens of a steady query in one mode holds of them in the other
+-- a fact about the tokens of a steady query in one mode holds in the other mode
 pub in_either : (query : List ℕ) (P : List Token → Type 0) (mode other : Bool) → IsSteady query → OnTokens mode query P →
     OnTokens other query P
 in_either query P mode other steady o = (o.0, steady_other mode other query o.0 steady o.1, o.2)

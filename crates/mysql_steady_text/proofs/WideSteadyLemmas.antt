@@ -57,7 +57,7 @@ use Rattle.mysql_steady_text.proofs.SteadyTextLemmas.{both_of, is_steady_text}
 
 -- ---- by the query with marks
 
--- what is given to the query is given to it with marks, by position
+-- the values that are given to the query are given to it with marks, by position
 pub marked_given : (reading : Reading) (query : List ℕ) (ts : List Token) (given : Given) (text : List ℕ) → IsTokensIn reading query ts →
     (g : IsGivenText steady_literal_of IsSteadyFor ts given text) →
     IsGivenText steady_literal_of IsSteadyFor (with_marks ts) (positional g.values) text
@@ -144,7 +144,7 @@ wide_given query given text steady o mode = (
   is_steady_text_in (wide_reading false) query o.0 given text o.1 steady o.2,
 )
 
--- what nothing is said of
+-- a query has tokens
 pub wide_nothing : (mode : Bool) (query : List ℕ) → OnWideTokens mode query (λ ts. ⊤)
 wide_nothing mode query = let t = reading_exists (wide_reading mode) query in (t.0, t.1, tt)
 
@@ -257,7 +257,7 @@ wide_refused (Err (Bind e)) mode query given unportable steady p b =
     (λ ts is h. (steady, h.0, h.1))
     (on_both (wide_reading mode) query (λ ts. unportable ts ≡ None) (λ ts. IsCauseOrMemory (first_cause ts given) e) p b)
 
--- what is found, as it is matched
+-- the construct that is found, as it is matched
 pub found_so : (query : List ℕ) (found wanted : Option Unportable) → found ≡ wanted →
     OnWideTokens false query (λ ts. found ≡ first_unportable (lower_names ts)) →
     OnWideTokens false query (λ ts. wanted ≡ first_unportable (lower_names ts))

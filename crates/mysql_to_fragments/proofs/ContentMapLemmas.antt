@@ -1,5 +1,5 @@
--- To insert a fragment into a hash map is to insert what it says into the finite map of what the
--- entries say.
+-- An insertion of a fragment into a hash map is an insertion of its content into the finite map of
+-- the entries' contents.
 use Rattle.std.proofs.Common.{◌≡◌, ℕ, Bool, true, false, cond, List, [], ◌∷◌, map, refl, sym, ap, ◌∙◌}
 use Rattle.std.specs.Prelude.{Option, Some, None, Result, Ok, Err, option_map, is_some, nat_eq, ⊤}
 use Rattle.std.specs.FinMap as finite
@@ -26,7 +26,7 @@ of_choice : (b : Bool) (f : Fragment) (o : Option Fragment) → cond b (Some (co
 of_choice true f o = refl
 of_choice false f o = refl
 
--- a search by the names' order finds the content of what a search by their bytes finds
+-- a search by the names' order finds the content of the fragment that a search by their bytes finds
 find-lookup : (es : List (Vec ℕ × Fragment)) (q : List ℕ) → find (slice_cmp nat_cmp) q (map entry_content es) ≡ option_map content_of (lookup (has_bytes q) es)
 find-lookup [] q = refl
 find-lookup (e ∷ es) q =
@@ -34,7 +34,7 @@ find-lookup (e ∷ es) q =
     ∙ ap (cond (pointwise nat_eq q e.0.items) (Some (content_of e.1))) (find-lookup es q)
     ∙ of_choice (has_bytes q e.0) e.1 (lookup (has_bytes q) es)
 
--- what the map has at a name
+-- the entry of the map at a name
 pub get-content_map : (es : List (Vec ℕ × Fragment)) (q : List ℕ) → get (content_map es) q ≡ option_map content_of (lookup (has_bytes q) es)
 get-content_map es q = get-from_entries nat_list_cmp_total _ q ∙ find-lookup es q
 

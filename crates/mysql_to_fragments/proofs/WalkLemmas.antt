@@ -27,7 +27,7 @@ module _ {S A R : Type 0} (g : Result S R → A → Result S R)
   refusal_stays refusal rs = refusal_expected_too start (fold g start rs) ⊤ ⊤ refusal
       (λ why refused. ap (λ s. fold g s rs) refused ∙ fold-refused why rs) (λ _. tt)
 
-  -- x is the argument at i of the list xs, and f what is known of an argument
+  -- x is the argument at i of the list xs, and f the fact about an argument
   module _ {X : Type 0} (f : X → A) (xs : List X) (i : ℕ) (x : X) (h : i < length xs) (is : x ≡ get_or xs i x) where
     within_map : i < length (map f xs)
     within_map = omega (arith, length-map xs f)

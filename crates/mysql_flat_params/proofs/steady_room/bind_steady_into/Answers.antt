@@ -34,7 +34,7 @@ returns-in-Err-clause-mixed c mode =
 pub returns-in-Err-clause-memory : goal.returns-in-Err-clause-memory
 returns-in-Err-clause-memory c = λ is. inr (c.in-Err.ensures.memory (ap (λ e. Err e) (c.form_outcome.ensures.memory is)))
 
--- ---- a query that is refused whatever is given to it
+-- ---- a query that is refused with any parameters
 
 pub returns-in-Ok-Some-clause-outcome : goal.returns-in-Ok-Some-clause-outcome
 returns-in-Ok-Some-clause-outcome c =
