@@ -11,7 +11,7 @@ use mysql_fragments::FragmentFault;
 pub enum FragmentsOutcome {
     /// An outcome that calls which bind values have too. Only
     /// [`bind_fragments_anywhere_into`](crate::bind_fragments_anywhere_into) returns `Unsteady` and
-    /// `Unportable`, and no call that binds fragments returns `Backslash`.
+    /// `Unportable`, also by wide names. No call that binds fragments returns `Backslash`.
     AsValues(Outcome),
     /// The fragment for a place can't be written; the first such place is reported.
     Fault {
@@ -22,7 +22,8 @@ pub enum FragmentsOutcome {
     },
     /// The fragment for a place has a name with a backslash or a byte from 128 on; the first such
     /// place is reported. Only
-    /// [`bind_fragments_anywhere_into`](crate::bind_fragments_anywhere_into) returns it.
+    /// [`bind_fragments_anywhere_into`](crate::bind_fragments_anywhere_into) returns it, also by
+    /// wide names.
     UnsteadyFragment {
         /// The number of its place, from 0.
         place: usize,

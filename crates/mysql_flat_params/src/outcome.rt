@@ -93,15 +93,16 @@ pub enum Outcome {
         /// The number of its place, from 0.
         place: usize,
     },
-    /// The query has a backslash or a byte from 128 on; the first is reported. Only
-    /// [`bind_anywhere_into`](crate::bind_anywhere_into) returns it.
+    /// The query has a backslash or a byte from 128 on; the first is reported. Of the calls that
+    /// bind values, only [`bind_anywhere_into`](crate::bind_anywhere_into) returns it, also by wide
+    /// names.
     Unsteady {
         /// Its index in the query.
         position: usize,
     },
-    /// The query isn't portable; the first construct is reported. Only
-    /// [`bind_anywhere_into`](crate::bind_anywhere_into) and
-    /// [`bind_in_both_modes_into`](crate::bind_in_both_modes_into) return it.
+    /// The query isn't portable; the first construct is reported. Of the calls that bind values,
+    /// only [`bind_anywhere_into`](crate::bind_anywhere_into) and
+    /// [`bind_in_both_modes_into`](crate::bind_in_both_modes_into) return it, also by wide names.
     Unportable {
         /// The number of the construct, as
         /// [`report_first_unportable`](crate::report_first_unportable) gives it.
@@ -110,7 +111,7 @@ pub enum Outcome {
         position: usize,
     },
     /// A string of the query holds a backslash; the first is reported. Only
-    /// [`bind_in_both_modes_into`](crate::bind_in_both_modes_into) returns it.
+    /// [`bind_in_both_modes_into`](crate::bind_in_both_modes_into) returns it, also by wide names.
     Backslash {
         /// Its index in the query.
         position: usize,

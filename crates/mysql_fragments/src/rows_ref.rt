@@ -52,7 +52,7 @@ impl<'v> RowsRef<'v> {
         self.count
     }
 
-    /// The row of this number.
+    /// The row with this number.
     pub(crate) fn row(&self, r: usize) -> &'v [ValueRef<'v>]
         requires { r < self.now.count }
         ensures { result.now ≡ take self.now.width (drop (r * self.now.width) self.now.cells.now) }

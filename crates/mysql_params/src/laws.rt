@@ -1,5 +1,5 @@
 //! Laws of the definitions that the contracts cite, and of equality, of all crates below,
-//! re-exported by name. They do nothing: a program calls one only if a proof needs its clauses.
+//! re-exported by name. A program calls one only for its clauses, if a proof needs them.
 
 pub use mysql_binding::laws::{
     bind_error_equality, bind_pairs_error_equality, bound_again_is_the_same, bound_texts_are_sent,
