@@ -27,8 +27,8 @@ use std::alloc::{AllocError, Global};
 
 /// Binds a form's fragments to a query, as
 /// [`bind_fragments_anywhere`](mysql_fragments::bind_fragments_anywhere) does, and writes the text
-/// to the front of the room. No `sql_mode` and no character set of a connection changes how any
-/// server reads the text.
+/// to the front of the room. The text is read the same on any server, in every `sql_mode` and over
+/// every character set of a connection.
 ///
 /// Form, room, `Done` and `Room` are as for [`bind_fragments_into`](crate::bind_fragments_into). A
 /// form is refused before the query. Then come `Unsteady` and `Unportable`, then the causes of

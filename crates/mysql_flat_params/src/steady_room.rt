@@ -66,8 +66,8 @@ const WIDE_IN_BOTH_MODES: SteadyCall = SteadyCall {
 
 /// Binds a form's parameters to a query, as
 /// [`bind_text_anywhere`](mysql_steady_text::bind_text_anywhere) does, and writes the text to the
-/// front of the room. No `sql_mode` and no character set of a connection changes how any server
-/// reads the text.
+/// front of the room. The text is read the same on any server, in every `sql_mode` and over every
+/// character set of a connection.
 ///
 /// Form, room, `Done` and `Room` are as for [`bind_into`](crate::bind_into). A form is refused
 /// before the query. Then come `Unsteady` and `Unportable`, and then the causes of `bind_into`.
@@ -100,9 +100,9 @@ pub fn bind_anywhere_into(alloc: Global, query: &[u8], form: &[u8], room: &mut [
 
 /// Binds a form's parameters to a query, as
 /// [`bind_text_in_both_modes`](mysql_steady_text::bind_text_in_both_modes) does, and writes the
-/// text to the front of the room. No `sql_mode` changes how any server reads the text. The query
-/// may hold bytes from 128 on. The connection's character set then has to be that of these bytes:
-/// utf8mb4 for UTF-8.
+/// text to the front of the room. The text is read the same on any server, in every `sql_mode`. The
+/// query may hold bytes from 128 on. The connection's character set then has to be that of these
+/// bytes: utf8mb4 for UTF-8.
 ///
 /// Everything else is as for [`bind_anywhere_into`], except that `Backslash`, for a backslash in a
 /// string of the query, comes in place of `Unsteady`.

@@ -158,8 +158,8 @@ pub fn bound_fragments_on_servers()
     bound_texts_on_servers();
 }
 
-/// If a client sends the query as it is, it also sends the text as it is. This requires that no
-/// fragment has a byte 0 or a newline, and that none begins with a letter, as keywords do.
+/// If a client sends the query as it is, and no fragment has a byte 0 or a newline or begins with a
+/// letter, as keywords do, the client also sends the text as it is.
 pub fn fragments_are_sent()
     ensures { (mode : Bool) (query text : List ℕ) (ts : List Token) (counts : List ℕ)
         (texts : List (List ℕ)) (lists : List (List Token)) → IsTokens mode query ts →
@@ -209,9 +209,9 @@ pub fn bound_fragments_in_clients()
     bound_texts_in_clients();
 }
 
-/// If a query is portable in a client, then so is each text that is bound to it with fragments.
-/// This requires that no fragment and no literal has a newline or a byte 0, and that no fragment
-/// begins with a letter, as keywords do.
+/// If a query is portable in a client, no fragment and no literal has a newline or a byte 0, and no
+/// fragment begins with a letter, as keywords do, then the text that is bound to it is portable in
+/// the client too.
 pub fn bound_fragments_are_sent()
     ensures { (mode : Bool) (query text : List ℕ) (ts : List Token) (given : GivenFragments) →
         IsTokens mode query ts → IsPortableInClient ts →

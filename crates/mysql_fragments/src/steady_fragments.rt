@@ -22,8 +22,9 @@ use mysql_portable::steady::first_unsteady;
 use mysql_steady_text::SteadyForm;
 use std::alloc::Global;
 
-/// The query with a fragment in the place of each name and mark, its values as steady literals. No
-/// `sql_mode` and no character set of a connection changes how any server reads the text.
+/// The query with a fragment in the place of each name and mark, its values as steady literals:
+/// text that is read the same on any server, in every `sql_mode` and over every character set of a
+/// connection.
 ///
 /// The text is the one that [`bind_text_anywhere`](mysql_steady_text::bind_text_anywhere) gives for
 /// the query of [`expanded_query`](crate::expanded_query) and its values. So it is ASCII without a
@@ -75,9 +76,9 @@ pub fn bind_fragments_anywhere(
     bind_steady_fragments(alloc, query, fragments, false)
 }
 
-/// [`bind_fragments_anywhere`] for a query that is meant for one server. No `sql_mode` and no
-/// character set changes how that server reads the text. The query needn't be portable, so
-/// `Unportable` never comes. Everything else is the same.
+/// [`bind_fragments_anywhere`] for a query that is meant for one server: the query needn't be
+/// portable, so `Unportable` never comes. That server reads the text the same in every `sql_mode`
+/// and over every character set. Everything else is as there.
 pub fn bind_fragments_in_any_mode(
     alloc: Global,
     query: &[u8],

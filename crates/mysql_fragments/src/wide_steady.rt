@@ -58,7 +58,7 @@ pub fn bind_wide_fragments_anywhere(
     }
 }
 
-/// [`bind_wide_fragments_anywhere`] for a query that is meant for one server. The query needn't be
+/// [`bind_wide_fragments_anywhere`] for a query that is meant for one server: the query needn't be
 /// portable, so `Unportable` never comes. Everything else is the same.
 pub fn bind_wide_fragments_in_any_mode(
     alloc: Global,

@@ -6,11 +6,11 @@
 //! their values in the places of names and marks. [`bind_text_in`] does so in either mode of
 //! backslashes. A [`ParsedQuery`] is parsed once and bound many times.
 //!
-//! No mode and no character set changes how the text of [`bind_text_anywhere`] is read.
-//! [`bind_text_in_both_modes`] takes a query that may hold bytes from 128 on, and no mode changes
-//! how its text is read. [`bind_pairs`] and [`bind_values`] take borrowed names and values, and
-//! each of these calls has two such calls beside it. [`bind_wide`] and the calls with `wide` in
-//! their names take names with capitals.
+//! [`bind_text_anywhere`] gives text that is read the same in every mode and over every character
+//! set. [`bind_text_in_both_modes`] takes a query that may hold bytes from 128 on, and gives text
+//! that is read the same in every mode. [`bind_pairs`] and [`bind_values`] take borrowed names and
+//! values, and each of these calls has two such calls beside it. [`bind_wide`] and the calls with
+//! `wide` in their names take names with capitals.
 //!
 //! Before a query is bound, [`first_unportable`] finds the first construct that servers read in
 //! different ways, or in which a value would join a number. [`first_unportable_in_client`] also

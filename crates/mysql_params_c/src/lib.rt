@@ -124,8 +124,8 @@ pub extern "C" fn mysql_params_bind(
 }
 
 /// Binds the form's parameters to the query, and writes to the front of the room a text for any
-/// server: [`bind_anywhere_into`](mysql_flat_params::bind_anywhere_into). No `sql_mode` and no
-/// character set of a connection changes how any server reads the text.
+/// server: [`bind_anywhere_into`](mysql_flat_params::bind_anywhere_into). The text is read the same
+/// on any server, in every `sql_mode` and over every character set of a connection.
 ///
 /// It returns the numbers of [`mysql_params_bind`] and two more, which come after those for a form
 /// and before those for a query. 15 (`Unsteady`) is for a query with a backslash or a byte from 128
@@ -169,8 +169,8 @@ pub extern "C" fn mysql_params_bind_anywhere(
 
 /// Binds the form's parameters to the query, and writes to the front of the room a text for both
 /// modes and any server: [`bind_in_both_modes_into`](mysql_flat_params::bind_in_both_modes_into).
-/// No `sql_mode` changes how any server reads the text. The query may have bytes from 128 on. The
-/// connection's character set then has to be that of these bytes: utf8mb4 for UTF-8.
+/// The text is read the same on any server, in every `sql_mode`. The query may have bytes from 128
+/// on. The connection's character set then has to be that of these bytes: utf8mb4 for UTF-8.
 ///
 /// It returns the numbers of [`mysql_params_bind_anywhere`], with 18 (`Backslash`) in place of 15:
 /// for a query with a backslash in a string, whose position is in the report. Everything else is
@@ -359,8 +359,9 @@ pub extern "C" fn mysql_params_bind_fragments(
 }
 
 /// Binds the form's fragments to the query, and writes to the front of the room a text for any
-/// server: [`bind_fragments_anywhere_into`](mysql_flat_params::bind_fragments_anywhere_into). No
-/// `sql_mode` and no character set of a connection changes how any server reads the text.
+/// server: [`bind_fragments_anywhere_into`](mysql_flat_params::bind_fragments_anywhere_into). The
+/// text is read the same on any server, in every `sql_mode` and over every character set of a
+/// connection.
 ///
 /// It returns the numbers of [`mysql_params_bind_fragments`] and three more. 15 (`Unsteady`) and 16
 /// (`Unportable`) come after those for a form and before those for a query, as in

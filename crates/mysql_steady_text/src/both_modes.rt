@@ -23,8 +23,8 @@ use mysql_portable::portable::first_unportable;
 use std::alloc::Global;
 
 /// [`bind_text_anywhere`](crate::bind_text_anywhere) for a query that may hold bytes from 128 on,
-/// such as `SELECT * FROM bücher WHERE t = :a`. No `sql_mode` changes how any server reads the
-/// text. The literals are the same as there.
+/// such as `SELECT * FROM bücher WHERE t = :a`. The text is read the same on any server, in every
+/// `sql_mode`. The literals are the same as there.
 ///
 /// The connection's character set has to be that of the query's own bytes: utf8mb4 for UTF-8. Over
 /// another set, such as gbk, a byte from 128 on may take the backquote after it.

@@ -147,9 +147,9 @@ pub fn bound_steady_texts_in_clients()
     steady_texts_in_clients();
 }
 
-/// If a client sends the query as it is, it sends the text as it is (`sent`). If the query is
-/// portable in a client, so is the text (`portable`). This requires that no literal has a newline
-/// or a byte 0.
+/// If a client sends the query as it is, and no literal has a newline or a byte 0, it also sends
+/// the text as it is (`sent`). If the query is also portable in the client, so is the text
+/// (`portable`).
 pub fn steady_texts_are_sent()
     ensures sent { (mode : Bool) (query text : List ℕ) (ts : List Token)
         (literals : List (List ℕ)) (lists : List (List Token)) → IsTokens mode query ts →

@@ -24,8 +24,8 @@ use mysql_portable::portable::first_unportable;
 use mysql_portable::steady::first_unsteady;
 use std::alloc::Global;
 
-/// The query with the steady literal of a value in the place of each name and mark. No `sql_mode`
-/// and no character set of a connection changes how any server reads the text.
+/// The query with the steady literal of a value in the place of each name and mark: text that is
+/// read the same on any server, in every `sql_mode` and over every character set of a connection.
 ///
 /// Bytes are written as `_utf8mb4'it''s'` if they are printable ASCII without a backslash, as
 /// `_utf8mb4 0xC3A9` if they are other UTF-8, and as `0xFF` if they aren't UTF-8. Numbers, `NULL`,
@@ -74,9 +74,9 @@ pub fn bind_text_anywhere(
     bind_borrowed_anywhere(alloc, query, params.borrowed())
 }
 
-/// [`bind_text_anywhere`] for a query that is meant for one server. No `sql_mode` and no character
-/// set changes how that server reads the text. The query needn't be portable, so `Unportable` never
-/// comes. Everything else is the same.
+/// [`bind_text_anywhere`] for a query that is meant for one server: the query needn't be portable,
+/// so `Unportable` never comes. That server reads the text the same in every `sql_mode` and over
+/// every character set. Everything else is as there.
 pub fn bind_text_in_any_mode(
     alloc: Global,
     query: &[u8],

@@ -59,9 +59,9 @@ pub fn steady_fragments_in_clients()
     bound_steady_texts_in_clients();
 }
 
-/// If a steady query is portable in a client, then so is each steady text that is bound to it with
-/// fragments, in either mode. This requires that no fragment has a newline or a byte 0, and that
-/// none begins with a letter, as keywords do.
+/// If a steady query is portable in a client, and no fragment has a newline or a byte 0 or begins
+/// with a letter, as keywords do, then the steady text that is bound to it is portable in the
+/// client too, in either mode.
 pub fn steady_fragments_are_sent()
     ensures { (mode : Bool) (query text : List ℕ) (ts : List Token) (given : GivenFragments) →
         IsTokens mode query ts → IsSteady query → IsPortableInClient ts →
