@@ -34,7 +34,7 @@ pub(crate) enum FragmentInPlace<'f> {
     List(Vec<ValueRef<'f>>),
     Rows(RowsInPlace<'f>),
     /// A fragment of another kind. A list or rows with an exact number or a double in them are
-    /// copied too, and so are no rows, empty rows and rows of two lengths.
+    /// copied too, and so are empty rows, rows of two lengths, and an empty list of rows.
     Copied(Fragment),
 }
 

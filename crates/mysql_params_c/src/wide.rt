@@ -32,7 +32,7 @@ use std::alloc::Global;
 /// [`mysql_params_names`](crate::mysql_params_names) by wide names, which may have capitals:
 /// [`names_into_read`](mysql_flat_params::names_into_read).
 ///
-/// Numbers and report are as there. Wide names are those of
+/// Numbers and report are the same. Wide names are those of
 /// [`bind_wide_in`](mysql_binding::bind_wide_in).
 #[unsafe(no_mangle)]
 pub extern "C" fn mysql_params_names_wide(
@@ -72,7 +72,7 @@ pub extern "C" fn mysql_params_names_wide(
 /// [`mysql_params_bind`](crate::mysql_params_bind) by wide names, which may have capitals:
 /// [`bind_into_read`](mysql_flat_params::bind_into_read).
 ///
-/// Numbers and report are as there.
+/// Numbers and report are the same.
 #[unsafe(no_mangle)]
 pub extern "C" fn mysql_params_bind_wide(
     alloc: Global,
@@ -111,7 +111,7 @@ pub extern "C" fn mysql_params_bind_wide(
 /// [`mysql_params_bind_rows`](crate::mysql_params_bind_rows) by wide names, which may have
 /// capitals: [`bind_rows_into_read`](mysql_flat_params::bind_rows_into_read).
 ///
-/// Numbers, rows and report are as there.
+/// Numbers, rows and report are the same.
 #[unsafe(no_mangle)]
 pub extern "C" fn mysql_params_bind_rows_wide(
     alloc: Global,
@@ -147,7 +147,7 @@ pub extern "C" fn mysql_params_bind_rows_wide(
 /// [`table_into_read`](mysql_flat_params::table_into_read). Bind by the table with
 /// [`mysql_params_bind_template_wide`].
 ///
-/// Numbers and report are as there.
+/// Numbers and report are the same.
 #[unsafe(no_mangle)]
 pub extern "C" fn mysql_params_table_wide(
     alloc: Global,
@@ -178,7 +178,7 @@ pub extern "C" fn mysql_params_table_wide(
 /// [`mysql_params_table_wide`] made of the query:
 /// [`bind_by_table_into_read`](mysql_flat_params::bind_by_table_into_read).
 ///
-/// Numbers and report are as there.
+/// Numbers and report are the same.
 #[unsafe(no_mangle)]
 pub extern "C" fn mysql_params_bind_template_wide(
     alloc: Global,
@@ -228,7 +228,7 @@ pub extern "C" fn mysql_params_bind_template_wide(
 /// [`mysql_params_bind_fragments`](crate::mysql_params_bind_fragments) by wide names, which may
 /// have capitals: [`bind_fragments_into_read`](mysql_flat_params::bind_fragments_into_read).
 ///
-/// Numbers and report are as there.
+/// Numbers and report are the same.
 #[unsafe(no_mangle)]
 pub extern "C" fn mysql_params_bind_fragments_wide(
     alloc: Global,
@@ -264,7 +264,7 @@ pub extern "C" fn mysql_params_bind_fragments_wide(
 /// [`mysql_params_bind_anywhere`](crate::mysql_params_bind_anywhere) by wide names:
 /// [`bind_wide_anywhere_into`](mysql_flat_params::bind_wide_anywhere_into).
 ///
-/// Numbers, report and room are as there, except that over the empty form 16 (`Unportable`) and 8
+/// Numbers, report and room are the same, except that over the empty form 16 (`Unportable`) and 8
 /// (`Mixed`) may be 1 (`OutOfMemory`) instead if a name has a capital.
 #[unsafe(no_mangle)]
 pub extern "C" fn mysql_params_bind_anywhere_wide(
@@ -304,7 +304,7 @@ pub extern "C" fn mysql_params_bind_anywhere_wide(
 /// [`mysql_params_bind_in_both_modes`](crate::mysql_params_bind_in_both_modes) by wide names:
 /// [`bind_wide_in_both_modes_into`](mysql_flat_params::bind_wide_in_both_modes_into).
 ///
-/// Numbers, report and room are as there, except that over the empty form 16 (`Unportable`) and 8
+/// Numbers, report and room are the same, except that over the empty form 16 (`Unportable`) and 8
 /// (`Mixed`) may be 1 (`OutOfMemory`) instead if a name has a capital.
 #[unsafe(no_mangle)]
 pub extern "C" fn mysql_params_bind_in_both_modes_wide(
@@ -345,7 +345,7 @@ pub extern "C" fn mysql_params_bind_in_both_modes_wide(
 /// names:
 /// [`bind_wide_fragments_anywhere_into`](mysql_flat_params::bind_wide_fragments_anywhere_into).
 ///
-/// Numbers, report and room are as there.
+/// Numbers, report and room are the same.
 #[unsafe(no_mangle)]
 pub extern "C" fn mysql_params_bind_fragments_anywhere_wide(
     alloc: Global,
@@ -371,7 +371,7 @@ pub extern "C" fn mysql_params_bind_fragments_anywhere_wide(
 /// [`mysql_params_first_unportable`](crate::mysql_params_first_unportable) for a query with wide
 /// names: [`report_first_unportable_wide`].
 ///
-/// Number and report are as there, except that it returns -1, with a report of zeros, if memory is
+/// Number and report are the same, except that it returns -1, with a report of zeros, if memory is
 /// refused for a copy of the query. Only a query with a capital in a name is copied.
 #[unsafe(no_mangle)]
 pub extern "C" fn mysql_params_first_unportable_wide(
@@ -395,7 +395,7 @@ pub extern "C" fn mysql_params_first_unportable_wide(
 /// [`mysql_params_first_unportable_in_client`](crate::mysql_params_first_unportable_in_client) for
 /// a query with wide names: [`report_first_unportable_in_client_wide`].
 ///
-/// Number and report are as there, except for -1, which comes as from
+/// Number and report are the same, except for -1, which comes as from
 /// [`mysql_params_first_unportable_wide`].
 #[unsafe(no_mangle)]
 pub extern "C" fn mysql_params_first_unportable_in_client_wide(
