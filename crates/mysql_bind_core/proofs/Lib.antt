@@ -21,3 +21,6 @@ pub mod ScriptCountLemmas
 pub mod AlikeLineLemmas
 pub mod ScriptSentLemmas
 pub mod TableLemmas
+pub mod RowItemLemmas
+pub mod GroupLemmas
+pub mod GroupScriptLemmas

@@ -154,7 +154,7 @@ then_opener ts us h k = opener_append (statement_tokens ts) us (opener_append (w
 -- ---- a script
 
 -- each text is portable in a client
-abbrev AreInClient : List (List Token) → Type 0
+abbrev pub AreInClient : List (List Token) → Type 0
 AreInClient [] = ⊤
 AreInClient (ts ∷ lists) = IsPortableInClient ts × AreInClient lists
 
@@ -194,7 +194,7 @@ script_kept false lists p = statements_kept lists [] [] p none_kept
 
 -- ---- the texts of rows
 
-own_mode : (asked : Literals) → IsReadIn asked (mode_of asked)
+pub own_mode : (asked : Literals) → IsReadIn asked (mode_of asked)
 own_mode literals.Steady = tt
 own_mode (literals.Plain mode) = refl
 

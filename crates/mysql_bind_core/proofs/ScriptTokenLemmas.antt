@@ -39,7 +39,7 @@ values_line literals.Steady portability.Any ts given text mode r c b = steady_li
 values_line (literals.Plain own) wanted ts given text mode r c b =
     subst (λ m. HasLine m text) r (plain_line own ts given text c b)
 
-named_line : (literals : Literals) (wanted : Portability) (ts : List Token) (given : GivenFragments) (text : List ℕ)
+pub named_line : (literals : Literals) (wanted : Portability) (ts : List Token) (given : GivenFragments) (text : List ℕ)
     (mode : Bool) → IsReadIn literals mode → IsClosedLowered (mode_of literals) ts →
     IsFragmentsFor literals wanted ts given text → HasLine mode text
 named_line literals.Steady portability.Portable ts given text mode r c b = steady_fragments_line ts given text c b.steady_text mode
@@ -61,10 +61,10 @@ written_line request query assignments text mode r w =
     assigned_line request query assignments text mode r (λ ts h. closed_lowered (mode_of request.literals) query ts h w.taken.closed) w.assigned
 
 -- the texts have tokens, and each ends within none
-record HasLines (mode : Bool) (texts : List (List ℕ)) : Type 0 where
-  lists : List (List Token)
-  tokens_of : AreTokensOf mode texts lists
-  closed : Each (EndClosed mode) lists
+pub record HasLines (mode : Bool) (texts : List (List ℕ)) : Type 0 where
+  pub lists : List (List Token)
+  pub tokens_of : AreTokensOf mode texts lists
+  pub closed : Each (EndClosed mode) lists
 
 written_lines : (request : Request) (query : List ℕ) (mode : Bool) → IsReadIn request.literals mode → (rows : List Row)
     (texts : List (List ℕ)) → AreWritten request query rows texts → HasLines mode texts
@@ -144,19 +144,25 @@ word_cut_if mode false bytes h = cut_none mode
 cut_is : (mode : Bool) (text bytes : List ℕ) (ts : List Token) → bytes ≡ text → IsCut mode text ts → IsTokens mode bytes ts
 cut_is mode text bytes ts e c = record { text = c.text_is ∙ sym e; each = c.before [] }
 
+-- the tokens of the script of such texts
+pub tokens_of_lines : (transaction mode : Bool) (texts : List (List ℕ)) (bytes : List ℕ) → (l : HasLines mode texts) →
+    bytes ≡ (opening transaction ++ script texts) ++ closing transaction →
+    (lists : List (List Token)) × AreTokensOf mode texts lists × IsTokens mode bytes (script_tokens transaction lists)
+tokens_of_lines transaction mode texts bytes l whole =
+    let first = word_cut_if mode transaction (codes "START TRANSACTION") refl in
+    let last = word_cut_if mode transaction (codes "COMMIT") refl in
+    let inner = statements_cut mode texts l.lists l.tokens_of l.closed in (
+      l.lists,
+      l.tokens_of,
+      cut_is mode _ bytes (script_tokens transaction l.lists) whole
+          (cut_both mode (opening transaction ++ script texts) (closing transaction) _ _ (cut_both mode (opening transaction) (script texts) _ _ first inner) last),
+    )
+
 pub tokens_of_script : (request : Request) (query : List ℕ) (rows : List Row) (transaction mode : Bool) (bytes : List ℕ) →
     IsReadIn request.literals mode → (s : IsScript request query rows transaction bytes) →
     (lists : List (List Token)) × AreTokensOf mode s.texts lists × IsTokens mode bytes (script_tokens transaction lists)
 tokens_of_script request query rows transaction mode bytes r s =
-    let l = written_lines request query mode r rows s.texts s.written in
-    let first = word_cut_if mode transaction (codes "START TRANSACTION") refl in
-    let last = word_cut_if mode transaction (codes "COMMIT") refl in
-    let inner = statements_cut mode s.texts l.lists l.tokens_of l.closed in (
-      l.lists,
-      l.tokens_of,
-      cut_is mode _ bytes (script_tokens transaction l.lists) s.whole
-          (cut_both mode (opening transaction ++ script s.texts) (closing transaction) _ _ (cut_both mode (opening transaction) (script s.texts) _ _ first inner) last),
-    )
+    tokens_of_lines transaction mode s.texts bytes (written_lines request query mode r rows s.texts s.written) s.whole
 
 pub tokens_of_statements_alone : (request : Request) (query : List ℕ) (rows : List Row) (mode : Bool) (bytes : List ℕ) →
     IsReadIn request.literals mode → (s : AreStatements request query rows [] bytes) →

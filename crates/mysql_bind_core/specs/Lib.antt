@@ -16,3 +16,7 @@ pub mod Statements
 pub mod Scripts
 pub mod ScriptTokens
 pub mod Tables
+pub mod RowItems
+pub mod RowsBound
+pub mod Groups
+pub mod GroupSearch

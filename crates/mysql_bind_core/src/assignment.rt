@@ -155,7 +155,7 @@ fn entries_of(
 }
 
 // Inserts a fragment under a copy of its name, which may not be in the map yet.
-fn insert_fragment(
+pub(crate) fn insert_fragment(
     alloc: Global,
     entries: &mut HashMap<Vec<u8>, Fragment>,
     name: &[u8],

@@ -34,7 +34,7 @@ pub(crate) fn fragments_text(
 }
 
 // The text of a query and of fragments, with the literals that are asked for.
-fn named_text(
+pub(crate) fn named_text(
     alloc: Global,
     query: &[u8],
     fragments: &Fragments,

@@ -28,7 +28,8 @@ use mysql_steady_text::laws::{
     bound_steady_texts_in_clients, steady_texts_are_sent, steady_texts_in_clients,
 };
 pub use scripts::{
-    records_make_scripts, scripts_in_clients, tables_make_scripts, tokens_of_scripts,
+    groups_make_scripts, records_make_scripts, scripts_in_clients, tables_make_scripts,
+    tokens_of_scripts,
 };
 use std::alloc::Global;
 

@@ -5,14 +5,17 @@ ghost use Rattle.mysql_portable.specs.Portable.{AreReadAlike};
 ghost use Rattle.mysql_portable.specs.Statements.{statements};
 ghost use Rattle.mysql_binding.specs.Replaced.{AreTokensOf};
 ghost use Rattle.mysql_bind_core.specs.Cells.{AreAssigned, TableQuery};
+ghost use Rattle.mysql_bind_core.specs.Groups.{AreGroupsAppended, records_of};
 ghost use Rattle.mysql_bind_core.specs.Requests.{mode_of};
 ghost use Rattle.mysql_bind_core.specs.RowTexts.{IsRowText};
 ghost use Rattle.mysql_bind_core.specs.declared.cell.Cell as cell;
 ghost use Rattle.mysql_bind_core.specs.declared.request.Portability.TheVariants as portability;
 ghost use Rattle.mysql_bind_core.specs.declared.request.Request as declared;
-ghost use Rattle.mysql_bind_core.specs.Scripts.{AreStatements, IsScript, statement};
+ghost use Rattle.mysql_bind_core.specs.Scripts.{AreStatements, IsScript, closing, opening, statement};
 ghost use Rattle.mysql_bind_core.specs.ScriptTokens.{AreLinesReadAlike, IsReadIn, IsSentByClient, count_of_statements, script_tokens, tokens_of_statements};
-ghost use Rattle.mysql_bind_core.specs.Tables.{AreAppended, AreRowsOf, Fields};
+ghost use Rattle.mysql_bind_core.specs.Tables.{AreAppended, AreRowsOf, BeginsWithRecords, Fields};
+ghost use Rattle.mysql_bind_core.specs.TakenQuery.{RequestedQuery};
+ghost use Rattle.mysql_bind_core.specs.declared.group_form.GroupForm as group;
 ghost use Rattle.mysql_bind_core.specs.declared.row.Row as row;
 ghost use Rattle.mysql_bind_core.specs.declared.table_form.TableForm as form;
 ghost use Rattle.mysql_records.specs.Records.{IsTable};
@@ -83,4 +86,33 @@ pub fn tables_make_scripts()
         (records : List Fields) (before after : List ℕ) →
         AreAppended query form text records [] before after →
         IsTable form.format records text }
+{}
+
+/// What [`append_groups`](crate::append_groups) appends for the records of a table. The records of
+/// the groups are those that the text begins with, in their order (`records`), and the table, if no
+/// text is left (`table`). Behind what begins a script, and before what ends it, the statements
+/// make a script whose tokens are those of their texts, as [`tokens_of_scripts`] has it of rows
+/// (`script`). Unless all queries are taken, a client that keeps comments sends it as it is
+/// (`sent`).
+pub fn groups_make_scripts()
+    ensures records { (query : RequestedQuery) (form : group.GroupForm) (text : List ℕ)
+        (groups : List (List Fields)) (rest before after : List ℕ) →
+        AreGroupsAppended query form text groups rest before after →
+        BeginsWithRecords form.table.format text (records_of groups) rest }
+    ensures table { (query : RequestedQuery) (form : group.GroupForm) (text : List ℕ)
+        (groups : List (List Fields)) (before after : List ℕ) →
+        AreGroupsAppended query form text groups [] before after →
+        IsTable form.table.format (records_of groups) text }
+    ensures script { (query : RequestedQuery) (form : group.GroupForm) (text : List ℕ)
+        (groups : List (List Fields)) (rest : List ℕ) (transaction mode : Bool)
+        (after bytes : List ℕ) → IsReadIn query.request.literals mode →
+        (s : AreGroupsAppended query form text groups rest (opening transaction) after) →
+        bytes ≡ after ++ closing transaction → (lists : List (List Token))
+        × AreTokensOf mode s.texts lists × IsTokens mode bytes (script_tokens transaction lists) }
+    ensures sent { (query : RequestedQuery) (form : group.GroupForm) (text : List ℕ)
+        (groups : List (List Fields)) (rest : List ℕ) (transaction : Bool)
+        (after bytes : List ℕ) → query.request.portability ≡ portability.Portable →
+        AreGroupsAppended query form text groups rest (opening transaction) after →
+        bytes ≡ after ++ closing transaction →
+        OnTokens (mode_of query.request.literals) bytes IsSentByClient }
 {}
