@@ -20,7 +20,7 @@ _mysql_bind() {
     ,-*) word='--help --version' ;;
     ,*) word='bind rows names check' ;;
     bind,-*) word="$common $values" ;;
-    rows,-*) word="$common $values --csv --tsv --mysql-csv --mysql-tsv --ndjson --column --null-text --null-of --transaction --stream --progress --no-progress" ;;
+    rows,-*) word="$common $values --csv --tsv --mysql-csv --mysql-tsv --ndjson --column --null-text --null-of --rows-per-statement --max-bytes --transaction --stream --progress --no-progress" ;;
     names,-*) word="$common --zero --output" ;;
     check,-*) word=$common ;;
     *) mapfile -t COMPREPLY < <(compgen -f -- "$cur") && return ;;

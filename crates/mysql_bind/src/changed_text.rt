@@ -94,6 +94,17 @@ pub struct ChangedText {
     pub what: String,
 }
 
+/// What is said of a field of a row by which a client would change the text, by the name of its
+/// column.
+pub fn changed_column(alloc: Global, name: &[u8], found: Unportable) -> Result<String, AllocError> {
+    format!(in alloc;
+        "a client would change the text by what stands for `{}`: {}: {}",
+        Shown(name),
+        reason_of(found.construct),
+        advice_of(&[], name)
+    )
+}
+
 /// The place by which a client would change the bound text, where this construct is found.
 pub fn changed_text(
     alloc: Global,

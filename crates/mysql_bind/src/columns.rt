@@ -1,11 +1,12 @@
 //! The columns of a table, and what is said of wrong ones.
 use crate::column_words::{ColumnWords, NamedColumn};
 use crate::complaint::{Complaint, Fault, Place, add_fault};
+use crate::group_words::Limits;
 use crate::matching::{NamePlace, add_unused, assigned_names, is_new, note_value, note_values};
 use crate::query_file::{PlacesInOrder, QueryFile};
 use crate::told::SourceName;
 use crate::values::Values;
-use mysql_bind_core::{Assignment, Request, ValueType};
+use mysql_bind_core::{Assignment, ROW_NAME, Request, ValueType};
 use mysql_records::LentField;
 use mysql_values::show::Shown;
 use std::alloc::{AllocError, Global};
@@ -20,7 +21,8 @@ pub struct Column {
     pub value_type: ValueType,
     /// The bytes of a field that is NULL, if some mean that.
     pub null_text: Option<Vec<u8>>,
-    /// Whether the query has the name.
+    /// Whether its fields are bound: the query has the name or, where rows share statements, the
+    /// column has one.
     pub used: bool,
 }
 
@@ -39,6 +41,8 @@ pub struct Wanted<'a> {
     pub fixed: Values,
     /// What the words say of columns.
     pub words: ColumnWords,
+    /// What a statement has at most, if rows share statements: the name `row` stands for them.
+    pub limits: Option<Limits>,
     /// Whether values without a name in the query are taken.
     pub allow_unused: bool,
     /// The path of the table, as messages have it.
@@ -51,6 +55,19 @@ fn copy_of(alloc: Global, bytes: Option<&[u8]>) -> Result<Option<Vec<u8>>, Alloc
         Some(bytes) => Ok(Some(Vec::from_slice(alloc, bytes)?)),
         None => Ok(None),
     }
+}
+
+// Whether the fields of a column with this name are bound.
+fn is_used(wanted: &Wanted<'_>, name: Option<&[u8]>) -> bool {
+    match name {
+        Some(name) => wanted.limits.is_some() || wanted.numbers.contains_key(name),
+        None => false,
+    }
+}
+
+// Whether a column has the name of another place than that of the rows.
+fn has_own_place(wanted: &Wanted<'_>, name: &[u8]) -> bool {
+    wanted.limits.is_some() && name != ROW_NAME && wanted.numbers.contains_key(name)
 }
 
 // The columns that a header names. NULL is the empty name, which no query has.
@@ -67,7 +84,7 @@ fn named_columns(
             name: copy_of(alloc, said.name)?,
             value_type: said.value_type,
             null_text: copy_of(alloc, said.null_text)?,
-            used: matches!(said.name, Some(name) if wanted.numbers.contains_key(name)),
+            used: is_used(wanted, said.name),
         };
         if columns.push(column).is_err() {
             return Err(AllocError);
@@ -101,6 +118,13 @@ fn wrong_column<'c>(
     };
     let what = if !is_new(before, name)? {
         String::from_str(alloc, " has the name of one before it")?
+    } else if has_own_place(wanted, name) {
+        let what = format!(in alloc;
+            " has the name of the place `:{}`, and stands in `:row`: give the place its value by \
+             an option, and the column another name by --column NAME=HEADER",
+            Shown(name)
+        )?;
+        what
     } else if fixed.contains(name) {
         String::from_str(alloc, " has a value by an option too")?
     } else if !column.used && !wanted.allow_unused {
@@ -133,6 +157,23 @@ fn add_wrong_columns(
     Ok(())
 }
 
+// What is said of a name without a column and a value.
+fn missing_text(alloc: Global, wanted: &Wanted<'_>, name: &[u8]) -> Result<String, AllocError> {
+    if wanted.limits.is_some() {
+        return format!(in alloc;
+            "no value for `:{}`: give it by --set, --file, --env, --null, --json or --pairs (the \
+             columns stand in `:row`)",
+            Shown(name)
+        );
+    }
+    format!(in alloc;
+        "no column for `:{}` in {}: name one so, or by --column NAME=HEADER, or give it by --set, \
+         --file, --env, --null, --json or --pairs",
+        Shown(name),
+        wanted.path.as_str()
+    )
+}
+
 // Adds a fault for each name without a column and a value, at its first place.
 fn add_missing_columns(
     faults: &mut Vec<Fault>,
@@ -147,17 +188,15 @@ fn add_missing_columns(
         let name = column.name.as_deref().unwrap_or(b"");
         note_value(assigned.as_mut_slice(), &wanted.numbers, name);
     }
+    if wanted.limits.is_some() {
+        note_value(assigned.as_mut_slice(), &wanted.numbers, ROW_NAME);
+    }
     let mut in_order = PlacesInOrder::new(&wanted.query);
     for (place, has_value) in wanted.places.iter().zip(assigned) {
         if has_value {
             continue;
         }
-        let what = format!(in alloc;
-            "no column for `:{}` in {}: name one so, or by --column NAME=HEADER, or give it by \
-             --set, --file, --env, --null, --json or --pairs",
-            Shown(place.name.as_slice()),
-            wanted.path.as_str()
-        )?;
+        let what = missing_text(alloc, wanted, place.name.as_slice())?;
         add_fault(faults, in_order.place_of(alloc, place.at)?, what)?;
     }
     Ok(())

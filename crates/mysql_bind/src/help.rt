@@ -46,6 +46,12 @@ with `;` on a line of its own. The values above are the same in each row:
                             it an empty field is an empty text
       --null-of NAME=TEXT   the same in one column, in place of --null-text
                             (these three not for NDJSON)
+      --rows-per-statement N  write up to N rows in each statement, in place of
+                            the name :row, as in INSERT INTO t (a, b) VALUES :row
+      --max-bytes M         the same with as many rows as M bytes take (with the
+                            line of the `;`); with both, whichever is reached
+                            first. A row has the columns in their order, and the
+                            other names have values by options (not for NDJSON)
       --transaction         START TRANSACTION before the first row, COMMIT after
                             the last: a script that is cut off changes nothing
       --stream              write statements before all rows are bound: a row

@@ -67,6 +67,8 @@ fn rows<'a>(alloc: Global) -> Result<Command<'a>, AllocError> {
         .arg(many(alloc, "column"))?
         .arg(many(alloc, "null-of"))?
         .arg(one(alloc, "null-text"))?
+        .arg(one(alloc, "rows-per-statement"))?
+        .arg(one(alloc, "max-bytes"))?
         .arg(flag(alloc, "transaction"))?
         .arg(flag(alloc, "stream"))?
         .arg(flag(alloc, "progress"))?

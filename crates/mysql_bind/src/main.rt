@@ -10,6 +10,8 @@ mod columns;
 mod commands;
 mod complaint;
 mod construct_texts;
+mod group_records;
+mod group_words;
 mod help;
 mod interface;
 mod json_members;

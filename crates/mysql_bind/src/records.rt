@@ -1,6 +1,7 @@
 //! The rows of CSV and TSV, and of what MySQL servers and clients write.
 use crate::columns::{Column, Wanted, columns_of};
 use crate::complaint::{Complaint, Place, bad_file, one_fault};
+use crate::group_records::add_groups;
 use crate::progress::ROWS_AT_ONCE;
 use crate::query_file::complaint_of;
 use crate::refused_row::{RowAt, complaint_of_row};
@@ -56,34 +57,36 @@ fn place_refused(alloc: Global, path: &str, line: usize, column: usize, what: &s
     }
 }
 
-// The bytes of a table.
+/// The bytes of a table.
 #[derive(Clone, Copy)]
-struct Table<'t> {
-    // Its path, as messages have it.
-    path: &'t str,
-    format: RecordFormat,
-    bytes: &'t [u8],
+pub struct Table<'t> {
+    /// Its path, as messages have it.
+    pub path: &'t str,
+    /// The format of its records.
+    pub format: RecordFormat,
+    /// The bytes.
+    pub bytes: &'t [u8],
 }
 
 impl<'t> Table<'t> {
-    // The bytes from an index on.
-    fn from_index(self, at: usize) -> &'t [u8] {
+    /// The bytes from an index on.
+    pub fn from_index(self, at: usize) -> &'t [u8] {
         let at = at.min(self.bytes.len());
         &self.bytes[at..]
     }
 
-    // The index at which a rest of the bytes begins.
-    fn index_of(self, rest: &[u8]) -> usize {
+    /// The index at which a rest of the bytes begins.
+    pub fn index_of(self, rest: &[u8]) -> usize {
         self.bytes.len().saturating_sub(rest.len())
     }
 
-    // The line and the column of an index.
-    fn place_of(self, at: usize) -> (usize, usize) {
+    /// The line and the column of an index.
+    pub fn place_of(self, at: usize) -> (usize, usize) {
         line_and_column(self.bytes, at.min(self.bytes.len()))
     }
 
-    // What is said of a fault in a rest of the bytes that begins at an index.
-    fn fault_refused(self, alloc: Global, start: usize, fault: Fault) -> Complaint {
+    /// What is said of a fault in a rest of the bytes that begins at an index.
+    pub fn fault_refused(self, alloc: Global, start: usize, fault: Fault) -> Complaint {
         let (line, column) = self.place_of(start.saturating_add(fault.at));
         place_refused(
             alloc,
@@ -94,9 +97,9 @@ impl<'t> Table<'t> {
         )
     }
 
-    // What is said of a record that begins at an index, and has another number of fields than there
-    // are columns.
-    fn length_refused(self, alloc: Global, at: usize, len: usize, columns: usize) -> Complaint {
+    /// What is said of a record that begins at an index, and has another number of fields than
+    /// there are columns.
+    pub fn length_refused(self, alloc: Global, at: usize, len: usize, columns: usize) -> Complaint {
         let (line, _) = self.place_of(at);
         let fields = if len == 1 { "field" } else { "fields" };
         match format!(in alloc; "{len} {fields}, and the first line has {columns}") {
@@ -105,9 +108,9 @@ impl<'t> Table<'t> {
         }
     }
 
-    // Reads the fields of the record at the front of a rest of the bytes, if there is one, and
-    // gives the bytes behind it.
-    fn read(
+    /// Reads the fields of the record at the front of a rest of the bytes, if there is one, and
+    /// gives the bytes behind it.
+    pub fn read(
         self,
         alloc: Global,
         rest: &'t [u8],
@@ -122,8 +125,8 @@ impl<'t> Table<'t> {
         }
     }
 
-    // The number of records at the front of a rest of the bytes that have statements.
-    fn count_records(self, alloc: Global, rest: &'t [u8]) -> Result<usize, Complaint> {
+    /// The number of records at the front of a rest of the bytes that have statements.
+    pub fn count_records(self, alloc: Global, rest: &'t [u8]) -> Result<usize, Complaint> {
         let mut fields = Vec::new(alloc);
         let mut rest = rest;
         let mut count = 0usize;
@@ -138,9 +141,14 @@ impl<'t> Table<'t> {
         Ok(count)
     }
 
-    // Refuses a rest of the bytes that isn't records, or has one with another number of fields than
-    // there are columns.
-    fn check_records(self, alloc: Global, rest: &'t [u8], columns: usize) -> Result<(), Complaint> {
+    /// Refuses a rest of the bytes that isn't records, or has one with another number of fields
+    /// than there are columns.
+    pub fn check_records(
+        self,
+        alloc: Global,
+        rest: &'t [u8],
+        columns: usize,
+    ) -> Result<(), Complaint> {
         let mut fields = Vec::new(alloc);
         let mut rest = rest;
         // Each record has a byte.
@@ -158,9 +166,9 @@ impl<'t> Table<'t> {
     }
 }
 
-// The names of what is bound in each row: of the columns that are used, and of the values that are
-// the same in each row.
-fn bound_names<'n>(
+/// The names of what is bound in each row: of the columns that are used, and of the values that are
+/// the same in each row.
+pub fn bound_names<'n>(
     alloc: Global,
     wanted: &'n Wanted<'_>,
     columns: &'n [Column],
@@ -196,8 +204,8 @@ fn fixed_cells<'n>(alloc: Global, wanted: &'n Wanted<'_>) -> Result<Vec<Cell<'n>
     Ok(cells)
 }
 
-// The columns, as records are bound by them.
-fn table_columns<'c>(
+/// The columns, as records are bound by them.
+pub fn table_columns<'c>(
     alloc: Global,
     columns: &'c [Column],
 ) -> Result<Vec<TableColumn<'c>>, AllocError> {
@@ -363,7 +371,10 @@ pub fn add_records(
         ));
     };
     let columns = columns_of(rt.alloc(), wanted, header.as_slice(), 1)?;
-    add_table(script, rt, table, columns.as_slice(), rest)
+    match wanted.limits {
+        Some(_) => add_groups(script, rt, table, columns.as_slice(), rest),
+        None => add_table(script, rt, table, columns.as_slice(), rest),
+    }
 }
 
 // Adds a row for each record of a rest of the table, which has these columns.

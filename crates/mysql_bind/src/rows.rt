@@ -2,6 +2,7 @@
 use crate::column_words::ColumnWords;
 use crate::columns::Wanted;
 use crate::complaint::{Complaint, bad_word};
+use crate::group_words::{check_row, check_types, limits_of};
 use crate::json_members::Decimals;
 use crate::json_rows::add_objects;
 use crate::matching::{name_places, place_numbers};
@@ -62,6 +63,14 @@ fn check_options(alloc: Global, matches: &ArgMatches<'_>, form: Form) -> Result<
         return Err(bad_word(
             alloc,
             "--column, --null-of and --null-text are not for --ndjson: JSON has types and null",
+        ));
+    }
+    let grouped = matches.get_str("rows-per-statement").is_some()
+        || matches.get_str("max-bytes").is_some();
+    if form == Form::Ndjson && grouped {
+        return Err(bad_word(
+            alloc,
+            "--rows-per-statement and --max-bytes are not for --ndjson: its members have no order",
         ));
     }
     if matches.get_flag("progress") && matches.get_flag("no-progress") {
@@ -155,6 +164,11 @@ pub fn rows(rt: &HostRuntime, matches: &ArgMatches<'_>) -> Result<(), Complaint>
     let request = request_of(rt.alloc(), matches)?;
     let (form, path) = table_of(rt.alloc(), matches)?;
     check_options(rt.alloc(), matches, form)?;
+    let limits = limits_of(rt.alloc(), matches)?;
+    let words = ColumnWords::new(rt.alloc(), matches)?;
+    if limits.is_some() {
+        check_types(rt.alloc(), &words)?;
+    }
     let mut sources = Sources::new(rt.alloc());
     let query = read_query(&mut sources, rt, matches.get_str("query").unwrap_or("-"))?;
     let fixed = values_of(&mut sources, rt, matches)?;
@@ -167,13 +181,17 @@ pub fn rows(rt: &HostRuntime, matches: &ArgMatches<'_>) -> Result<(), Complaint>
             return Err(complaint_of(rt.alloc(), &query, &values, request, failure)?);
         }
     };
+    if limits.is_some() {
+        check_row(rt.alloc(), &query, places.as_slice(), &fixed)?;
+    }
     let wanted = Wanted {
         numbers: place_numbers(rt.alloc(), places.as_slice())?,
         query,
         request,
         places,
         fixed,
-        words: ColumnWords::new(rt.alloc(), matches)?,
+        words,
+        limits,
         allow_unused: matches.get_flag("allow-unused"),
         path: String::from_str(rt.alloc(), shown_path(path))?,
     };

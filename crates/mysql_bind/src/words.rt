@@ -39,7 +39,7 @@ pub fn error_form_of(words: &[String]) -> ErrorForm {
     ErrorForm::Text
 }
 
-static OPTIONS: [&str; 29] = [
+static OPTIONS: [&str; 31] = [
     "--literals",
     "--mode",
     "--sql-mode",
@@ -60,6 +60,8 @@ static OPTIONS: [&str; 29] = [
     "--column",
     "--null-of",
     "--null-text",
+    "--rows-per-statement",
+    "--max-bytes",
     "--transaction",
     "--stream",
     "--progress",

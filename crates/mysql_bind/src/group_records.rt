@@ -1,0 +1,271 @@
+//! The statements of several rows of CSV and TSV, and of what MySQL servers and clients write.
+use crate::changed_text::{changed_column, changed_text};
+use crate::columns::{Column, Wanted, add_fixed};
+use crate::complaint::{Complaint, bad_row};
+use crate::group_words::Limits;
+use crate::query_file::complaint_of;
+use crate::records::{Table, bound_names, table_columns};
+use crate::refused_row::{RowAt, complaint_of_row};
+use crate::table_script::TableScript;
+use crate::values::Values;
+use mysql_bind_core::{
+    Assignment, Failure, GroupForm, GroupRefusal, ROW_NAME, TableForm, TakenQuery, append_groups,
+    assignments_of, bound_text, record_cells,
+};
+use std::alloc::{AllocError, Global};
+
+// So many statements are appended at once where progress is told.
+const STATEMENTS_AT_ONCE: usize = 16;
+
+// The table, and what its statements are made of.
+#[derive(Drop)]
+struct Grouped<'b> {
+    table: Table<'b>,
+    // The names of the columns that are used, and of the values that are the same in each row.
+    names: &'b [&'b [u8]],
+    query: TakenQuery<'b>,
+    // How a record becomes a row.
+    form: TableForm<'b>,
+    // What the other names are assigned.
+    fixed: &'b [Assignment],
+    limits: Limits,
+}
+
+// How many statements are appended at once.
+fn statements_at_once(script: &TableScript<'_, '_>) -> usize {
+    if script.stream {
+        1
+    } else if script.progress.is_told() {
+        STATEMENTS_AT_ONCE
+    } else {
+        usize::MAX
+    }
+}
+
+// What the other names are assigned, and `row` the bytes of one field.
+fn with_field(
+    alloc: Global,
+    wanted: &Wanted<'_>,
+    field: &Assignment,
+) -> Result<Vec<Assignment>, AllocError> {
+    let mut assigned = Vec::new(alloc);
+    add_fixed(&mut assigned, alloc, wanted)?;
+    let assignment = Assignment {
+        name: Vec::from_slice(alloc, ROW_NAME)?,
+        value_type: field.value_type,
+        bytes: Vec::from_slice(alloc, field.bytes.as_slice())?,
+    };
+    match assigned.push(assignment) {
+        Ok(()) => Ok(assigned),
+        Err(_) => Err(AllocError),
+    }
+}
+
+// What is said of a row whose text a client would change: by the first field with which it would,
+// or by what is the same in each row.
+fn changed_row(
+    alloc: Global,
+    wanted: &Wanted<'_>,
+    row: RowAt<'_>,
+) -> Result<Complaint, AllocError> {
+    let query = wanted.query.bytes.as_slice();
+    let path = wanted.path.as_str();
+    let request = wanted.request;
+    for field in row.assignments {
+        let assigned = with_field(alloc, wanted, field)?;
+        if let Err(Failure::UnportableText(found)) = bound_text(
+            alloc,
+            query,
+            assigned.as_slice(),
+            request,
+        ) {
+            let by = changed_text(alloc, query, assigned.as_slice(), request, found)?;
+            let rest = query.get(by.at..).unwrap_or(b"");
+            let what = if rest.starts_with(b":row") {
+                changed_column(alloc, field.name.as_slice(), found)?
+            } else {
+                by.what
+            };
+            return Ok(bad_row(alloc, path, row.line, what.as_str()));
+        }
+    }
+    let what = "a client would change the text of this row";
+    Ok(bad_row(alloc, path, row.line, what))
+}
+
+// What is said of the row of the record that begins at an index, and is refused for this. The first
+// later record that isn't one, or has another number of fields, is told behind it.
+fn row_refused(
+    script: &mut TableScript<'_, '_>,
+    rt: &HostRuntime,
+    grouped: &Grouped<'_>,
+    at: usize,
+    failure: Failure,
+) -> Result<Complaint, Complaint> {
+    let table = grouped.table;
+    let mut fields = Vec::new(rt.alloc());
+    let Some(more) = table.read(rt.alloc(), table.from_index(at), &mut fields)? else {
+        return Err(Complaint::Memory);
+    };
+    let cells = record_cells(rt.alloc(), &grouped.form, fields.as_slice())?;
+    let mut assigned = assignments_of(rt.alloc(), grouped.names, cells.as_slice())?;
+    let (line, _) = table.place_of(at);
+    let line = line as u64;
+    let complaint = if let Failure::UnportableText(_) = failure {
+        let assignments = assigned.as_slice();
+        changed_row(rt.alloc(), script.wanted, RowAt { assignments, line })?
+    } else {
+        add_fixed(&mut assigned, rt.alloc(), script.wanted)?;
+        let assignments = assigned.as_slice();
+        complaint_of_row(
+            rt.alloc(),
+            script.wanted,
+            RowAt { assignments, line },
+            failure,
+        )?
+    };
+    if script.stream {
+        script.begin(rt)?;
+    }
+    match table.check_records(rt.alloc(), more, grouped.form.columns.len()) {
+        Ok(()) => Ok(complaint),
+        Err(later) => Ok(complaint.before(later)?),
+    }
+}
+
+// What is said of a refusal in a rest of the table.
+fn group_refused(
+    script: &mut TableScript<'_, '_>,
+    rt: &HostRuntime,
+    grouped: &Grouped<'_>,
+    rest: &[u8],
+    refusal: GroupRefusal,
+) -> Result<Complaint, Complaint> {
+    let table = grouped.table;
+    let start = table.index_of(rest);
+    match refusal {
+        GroupRefusal::Record(fault) => Ok(table.fault_refused(rt.alloc(), start, fault)),
+        GroupRefusal::Length { at, fields } => {
+            let at = start.saturating_add(at);
+            let columns = grouped.form.columns.len();
+            Ok(table.length_refused(rt.alloc(), at, fields, columns))
+        }
+        GroupRefusal::Row { at, failure } => {
+            row_refused(script, rt, grouped, start.saturating_add(at), failure)
+        }
+        GroupRefusal::Long { at, bytes } => {
+            let (line, _) = table.place_of(start.saturating_add(at));
+            let most = grouped.limits.bytes;
+            let what = format!(in rt.alloc();
+                "a statement of this row alone has {bytes} bytes, and --max-bytes is {most}"
+            )?;
+            let path = script.wanted.path.as_str();
+            Ok(bad_row(rt.alloc(), path, line as u64, what.as_str()))
+        }
+        GroupRefusal::Memory(_) => Ok(Complaint::Memory),
+    }
+}
+
+// Notes that the records of a rest of the table have statements, up to a later rest.
+fn note_rows(
+    script: &mut TableScript<'_, '_>,
+    rt: &HostRuntime,
+    table: Table<'_>,
+    rest: &[u8],
+    later: &[u8],
+) -> Result<(), Complaint> {
+    if script.progress.is_told() {
+        let read = rest.len().saturating_sub(later.len());
+        let rows = table.count_records(rt.alloc(), &rest[..read])?;
+        script.progress.add(rt, rows, table.index_of(later));
+    }
+    Ok(())
+}
+
+// Adds the statements of a rest of the table.
+fn add_statements(
+    script: &mut TableScript<'_, '_>,
+    rt: &HostRuntime,
+    grouped: &Grouped<'_>,
+    rest: &[u8],
+) -> Result<(), Complaint> {
+    let rows = grouped.limits.rows.max(1);
+    let statements = statements_at_once(script);
+    // Without a limit of bytes the first try is the last one.
+    let mut next = if grouped.limits.bytes == usize::MAX {
+        rows
+    } else {
+        1
+    };
+    let mut rest = rest;
+    // What is added at once has a byte, except at the end.
+    for _ in 0..grouped.table.bytes.len() {
+        let form = GroupForm {
+            table: grouped.form,
+            fixed: grouped.fixed,
+            rows,
+            bytes: grouped.limits.bytes,
+            start: next.max(1).min(rows),
+            statements,
+        };
+        let text = &mut script.text;
+        match append_groups(rt.alloc(), &grouped.query, &form, rest, text) {
+            Ok(end) => {
+                note_rows(script, rt, grouped.table, rest, end.rest)?;
+                rest = end.rest;
+                next = end.rows;
+            }
+            Err(refusal) => return Err(group_refused(script, rt, grouped, rest, refusal)?),
+        }
+        if rest.is_empty() {
+            break;
+        }
+        if script.stream {
+            script.write_streamed(rt)?;
+        }
+    }
+    Ok(())
+}
+
+/// Adds the statements of a rest of a table, which has these columns, several rows in each.
+pub fn add_groups(
+    script: &mut TableScript<'_, '_>,
+    rt: &HostRuntime,
+    table: Table<'_>,
+    columns: &[Column],
+    rest: &[u8],
+) -> Result<(), Complaint> {
+    let wanted = script.wanted;
+    let Some(limits) = wanted.limits else {
+        return Ok(());
+    };
+    let names = bound_names(rt.alloc(), wanted, columns)?;
+    let taken = table_columns(rt.alloc(), columns)?;
+    let mut fixed = Vec::new(rt.alloc());
+    add_fixed(&mut fixed, rt.alloc(), wanted)?;
+    let grouped = Grouped {
+        table,
+        names: names.as_slice(),
+        query: taken_query(rt.alloc(), wanted)?,
+        form: TableForm {
+            format: table.format,
+            columns: taken.as_slice(),
+            fixed: &[],
+        },
+        fixed: fixed.as_slice(),
+        limits,
+    };
+    add_statements(script, rt, &grouped, rest)
+}
+
+// The query, if it is taken.
+fn taken_query<'q>(alloc: Global, wanted: &'q Wanted<'_>) -> Result<TakenQuery<'q>, Complaint> {
+    let query = &wanted.query;
+    match TakenQuery::new(alloc, query.bytes.as_slice(), wanted.request) {
+        Ok(taken) => Ok(taken),
+        Err(failure) => {
+            let values = Values::new(alloc);
+            Err(complaint_of(alloc, query, &values, wanted.request, failure)?)
+        }
+    }
+}
