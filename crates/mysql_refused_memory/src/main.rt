@@ -15,6 +15,7 @@ mod flat_fragment_cases;
 mod fragment_argument_cases;
 mod fragment_cases;
 mod fragment_inputs;
+mod group_cases;
 mod inputs;
 mod lookup_cases;
 mod maker_cases;
@@ -129,6 +130,9 @@ fn bind_case(alloc: Global, name: &str) -> Option<Case> {
         return Some(case);
     }
     if let Some(case) = table_text_cases::case(alloc, name) {
+        return Some(case);
+    }
+    if let Some(case) = group_cases::case(alloc, name) {
         return Some(case);
     }
     bind_rows_cases::case(alloc, name)
