@@ -1,4 +1,4 @@
-//! All that is wrong with a query, of the kind for which it is refused.
+//! All faults of a query that have the kind for which the query is refused.
 use crate::complaint::{Complaint, Fault, add_fault};
 use crate::construct_texts::{ConstructTexts, is_taken_after};
 use crate::query_file::{
@@ -16,8 +16,8 @@ use mysql_portable::portable::{Construct, Unportable};
 use mysql_portable::steady::first_unsteady;
 use std::alloc::{AllocError, Global};
 
-/// Adds what is wrong with a query that is refused for this: all unsteady bytes, all constructs, or
-/// all marks.
+/// Adds the faults of a query that is refused for this reason: all unsteady bytes, all constructs,
+/// or all marks. For any other reason it adds only the faults of that refusal.
 pub fn add_all_faults(
     faults: &mut Vec<Fault>,
     alloc: Global,
@@ -42,8 +42,8 @@ pub fn add_all_faults(
     }
 }
 
-/// Adds a fault for each name that doesn't stand alone in a query that is taken. A name directly
-/// before one doesn't count for it, since that has a fault.
+/// Adds a fault for each name of a taken query that joins the text beside it. If a name directly
+/// follows another one, only that other one has a fault for it.
 pub fn add_joined(
     faults: &mut Vec<Fault>,
     alloc: Global,

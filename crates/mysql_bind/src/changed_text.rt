@@ -1,5 +1,5 @@
-//! What is said of a bound text that a client would change: by what stands in which place of the
-//! query, and why.
+//! Messages about a bound text that a client would change: the place of the query that causes the
+//! change, and the reason.
 use crate::matching::assignment_numbers;
 use crate::query_file::{PlaceAt, places_of};
 use mysql_bind_core::{Assignment, Failure, Portability, Request, ValueType, bound_text};
@@ -85,17 +85,17 @@ fn advice_of(assignments: &[Assignment], name: &[u8]) -> &'static str {
     }
 }
 
-/// A place of a query by which a client would change the text, and what is said of it.
+/// A place of a query that makes a client change the text, and the message about it.
 #[derive(Drop)]
 pub struct ChangedText {
     /// The index of the place in the query.
     pub at: usize,
-    /// Its name, the reason, and what to do.
+    /// The message: the name of the place, the reason, and what to do.
     pub what: String,
 }
 
-/// What is said of a field of a row by which a client would change the text, by the name of its
-/// column.
+/// The message about a field of a row that makes a client change the text. It gives the name of the
+/// field's column.
 pub fn changed_column(alloc: Global, name: &[u8], found: Unportable) -> Result<String, AllocError> {
     format!(in alloc;
         "a client would change the text by what stands for `{}`: {}: {}",
@@ -105,7 +105,8 @@ pub fn changed_column(alloc: Global, name: &[u8], found: Unportable) -> Result<S
     )
 }
 
-/// The place by which a client would change the bound text, where this construct is found.
+/// The place of the query that makes a client change the bound text. The client changes it at the
+/// construct `found`.
 pub fn changed_text(
     alloc: Global,
     query: &[u8],

@@ -1,4 +1,4 @@
-//! What the words `--column`, `--null-of` and `--null-text` say of the columns of a table.
+//! The options `--column`, `--null-of` and `--null-text`, which describe the columns of a table.
 use crate::complaint::{Complaint, bad_word};
 use crate::matching::is_new;
 use crate::told::SourceName;
@@ -8,49 +8,49 @@ use mysql_bind_core::ValueType;
 use std::alloc::{AllocError, Global};
 use std::collections::{BTreeMap, BTreeSet};
 
-/// What a word of `--column` says of a column.
+/// The column that one `--column` describes.
 #[derive(Drop)]
 pub struct NamedColumn {
     /// The name of the query that it is bound to.
     pub name: Vec<u8>,
-    /// How its fields are taken.
+    /// How its fields are interpreted.
     pub value_type: ValueType,
-    /// What the first line of the table has for it.
+    /// The column's field in the first line of the table.
     pub header: Vec<u8>,
 }
 
-/// What a word of `--null-of` says of a column.
+/// The text that means NULL in one column, from one `--null-of`.
 #[derive(Drop)]
 pub struct NullText {
     /// The name of the query that the column is bound to.
     pub name: Vec<u8>,
-    /// The bytes of a field that is NULL.
+    /// The bytes of a field that mean NULL.
     pub text: Vec<u8>,
 }
 
-/// What the words say of columns.
+/// The options that describe columns.
 #[derive(Drop)]
 pub struct ColumnWords {
-    /// The words of `--column`. No name and no header stands twice.
+    /// The columns of `--column`. Each name and each header is given at most once.
     pub named: Vec<NamedColumn>,
-    /// The words of `--null-of`. No name stands twice.
+    /// The texts of `--null-of`. Each name is given at most once.
     pub nulls: Vec<NullText>,
-    /// The word of `--null-text`: it is for each column without a word of `--null-of`.
+    /// The text of `--null-text`, for each column without `--null-of`.
     pub null_text: Option<Vec<u8>>,
 }
 
-/// What a column is by its header.
+/// The description of a column, found by its header.
 #[derive(Clone, Copy)]
 pub struct ColumnSaid<'w> {
-    /// The name that it is bound to; none if a word gives this to another column.
+    /// The name that it is bound to; none if `--column` gives this name to another column.
     pub name: Option<&'w [u8]>,
-    /// How its fields are taken.
+    /// How its fields are interpreted.
     pub value_type: ValueType,
-    /// The bytes of a field that is NULL, if some mean that.
+    /// The bytes of a field that mean NULL, if any do.
     pub null_text: Option<&'w [u8]>,
 }
 
-/// What the words say, by header and by name.
+/// The options that describe columns, by header and by name.
 #[derive(Drop)]
 pub struct ColumnsByHeader<'w> {
     // Each word of `--column` by its header.
@@ -64,7 +64,7 @@ pub struct ColumnsByHeader<'w> {
 }
 
 impl ColumnWords {
-    /// What the words say, if no two contradict.
+    /// Reads the options. Two that contradict each other are refused.
     pub fn new(alloc: Global, matches: &ArgMatches<'_>) -> Result<ColumnWords, Complaint> {
         let null_text = match matches.get_str("null-text") {
             Some(text) => Some(Vec::from_slice(alloc, text.as_bytes())?),
@@ -77,7 +77,7 @@ impl ColumnWords {
         })
     }
 
-    /// What they say, by header and by name.
+    /// The same options, by header and by name.
     pub fn by_header(&self, alloc: Global) -> Result<ColumnsByHeader<'_>, AllocError> {
         let mut by_header = ColumnsByHeader {
             named: BTreeMap::new(alloc),
@@ -104,7 +104,7 @@ impl ColumnWords {
 }
 
 impl<'w> ColumnsByHeader<'w> {
-    /// What the column with this header is. Without a word its header is its name.
+    /// The description of the column with this header. Without `--column` its header is its name.
     pub fn said(&self, header: &'w [u8]) -> ColumnSaid<'w> {
         let (name, value_type) = match self.named.get(header) {
             Some(column) => (Some(column.name.as_slice()), column.value_type),

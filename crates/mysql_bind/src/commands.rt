@@ -1,4 +1,4 @@
-//! What each command does.
+//! The commands of the program.
 use crate::all_faults::{add_all_faults, add_joined};
 use crate::complaint::{Complaint, Fault, add_fault};
 use crate::matching::{is_new, matched_values};
@@ -14,7 +14,7 @@ use mysql_named_params::named_params::NamedParamsError;
 use std::alloc::{AllocError, Global};
 use std::collections::BTreeSet;
 
-/// Does what the words ask for.
+/// Runs the command that the arguments name.
 pub fn answer(rt: &HostRuntime, matches: &ArgMatches<'_>) -> Result<(), Complaint> {
     match matches.subcommand() {
         Some(("bind", inner)) => bind(rt, inner),

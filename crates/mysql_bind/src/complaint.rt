@@ -1,5 +1,5 @@
-//! What is said of a refusal. No message holds a value, and each stays on its line, whatever stands
-//! in a name or a path.
+//! Messages about refusals. No message has a value in it. Each message stays on its line, whatever
+//! bytes a name or a path has.
 use crate::told::{OnOneLine, github_property, github_text, json_text};
 use std::alloc::{AllocError, Global};
 use std::io;
@@ -8,7 +8,7 @@ use std::io::{BufWriter, Write};
 /// Where a fault is.
 #[derive(Debug, Drop)]
 pub enum Place {
-    /// In the words.
+    /// In the arguments.
     Words,
     /// In a file.
     File(String),
@@ -21,11 +21,11 @@ pub enum Place {
         /// The column, in bytes.
         column: usize,
     },
-    /// In a row of a file, which begins at a line, counted from 1.
+    /// In a row of a file.
     Row {
         /// The file.
         path: String,
-        /// The line.
+        /// The line at which the row begins, counted from 1.
         line: u64,
     },
 }
@@ -35,16 +35,16 @@ pub enum Place {
 pub struct Fault {
     /// Where it is.
     pub place: Place,
-    /// What it is, and what to write instead.
+    /// The message: the fault, and what to write instead.
     pub what: String,
 }
 
-/// Why the program did not do what it was asked for.
+/// Why the program failed.
 #[derive(Debug, Drop)]
 pub enum Complaint {
     /// The query or the values are refused.
     Refused(Vec<Fault>),
-    /// A word is wrong, or a source can't be read.
+    /// An argument is wrong, or a source can't be read.
     Unusable(Vec<Fault>),
     /// A write failed.
     Write,
@@ -52,14 +52,14 @@ pub enum Complaint {
     Memory,
 }
 
-/// How faults are told.
+/// The format in which faults are reported.
 #[derive(Debug, Clone, Copy, PartialEq, Eq)]
 pub enum ErrorForm {
     /// A line of text for each.
     Text,
     /// A JSON object for each, on a line.
     Json,
-    /// An annotation of GitHub's for each.
+    /// A GitHub annotation for each.
     Github,
 }
 
@@ -69,7 +69,7 @@ impl From<AllocError> for Complaint {
     }
 }
 
-/// The list of one fault.
+/// A list of only this fault.
 pub fn one_fault(alloc: Global, place: Place, what: String) -> Result<Vec<Fault>, AllocError> {
     let mut faults = Vec::new(alloc);
     add_fault(&mut faults, place, what)?;
@@ -84,7 +84,7 @@ pub fn add_fault(faults: &mut Vec<Fault>, place: Place, what: String) -> Result<
     }
 }
 
-/// A complaint about a word.
+/// A complaint about an argument.
 pub fn bad_word(alloc: Global, what: &str) -> Complaint {
     match String::from_str(alloc, what) {
         Ok(what) => unusable(alloc, Place::Words, what),
@@ -92,7 +92,7 @@ pub fn bad_word(alloc: Global, what: &str) -> Complaint {
     }
 }
 
-/// A complaint about one word or source.
+/// A complaint about one argument or source.
 pub fn unusable(alloc: Global, place: Place, what: String) -> Complaint {
     match one_fault(alloc, place, what) {
         Ok(faults) => Complaint::Unusable(faults),
@@ -108,7 +108,7 @@ pub fn bad_file(alloc: Global, path: &str, what: &str) -> Complaint {
     }
 }
 
-/// A complaint about a file with which a call of the system failed.
+/// A complaint about a file for which a system call failed.
 pub fn failed_file(alloc: Global, path: &str, error: &io::Error) -> Result<Complaint, AllocError> {
     if error.kind() == io::ErrorKind::OutOfMemory {
         return Ok(Complaint::Memory);
@@ -132,7 +132,8 @@ pub fn bad_row(alloc: Global, path: &str, line: u64, what: &str) -> Complaint {
 }
 
 impl Complaint {
-    /// The faults of both, those of this one first; one that isn't of faults comes alone.
+    /// The faults of both complaints, first those of this one, if both are `Refused`. Otherwise
+    /// only one of them is kept: this one, unless it is `Refused`.
     pub fn before(self, later: Complaint) -> Result<Complaint, AllocError> {
         match (self, later) {
             (Complaint::Refused(mut faults), Complaint::Refused(found)) => {
@@ -156,7 +157,7 @@ impl Complaint {
         }
     }
 
-    /// Tells each fault on standard error.
+    /// Reports each fault on standard error.
     pub fn tell(&self, rt: &HostRuntime, form: ErrorForm) -> io::Result<()> {
         match self {
             Complaint::Refused(faults) => tell_faults(rt, form, faults.as_slice()),

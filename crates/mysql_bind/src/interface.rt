@@ -1,5 +1,5 @@
-//! The words that the program takes. Each option has one name here, in the help, in the page of the
-//! manual and in the completion.
+//! The arguments that the program takes. Each option has the same name here, in the help, in the
+//! manual page and in the completion.
 use clap::{Arg, ArgAction, Command};
 use std::alloc::{AllocError, Global};
 
@@ -92,7 +92,7 @@ fn check<'a>(alloc: Global) -> Result<Command<'a>, AllocError> {
     )
 }
 
-/// The whole interface.
+/// The whole command-line interface.
 pub fn interface<'a>(alloc: Global) -> Result<Command<'a>, AllocError> {
     Command::new(alloc, "mysql_bind")
         .version("0.1.0")

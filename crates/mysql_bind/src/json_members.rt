@@ -6,7 +6,7 @@ use json::{Error as JsonError, Scratch, Value as Json, Writer, is_number};
 use mysql_bind_core::{ValueType, typed_fragment, typed_value};
 use std::alloc::{AllocError, Global};
 
-/// How a JSON number that is no whole one of 64 bits is taken.
+/// How a JSON number is interpreted that isn't a whole number of 64 bits.
 #[derive(Debug, Clone, Copy, PartialEq, Eq)]
 pub enum Decimals {
     /// It is refused.
@@ -20,7 +20,7 @@ pub enum Decimals {
 }
 
 impl Decimals {
-    /// What the words say.
+    /// The choice of the option `--decimals`.
     pub fn of(matches: &ArgMatches<'_>) -> Decimals {
         match matches.get_str("decimals") {
             Some("exact") => Decimals::Exact,

@@ -137,8 +137,8 @@ fn is_white_space(byte: u8) -> bool {
     matches!(byte, b' ' | b'\t' | b'\n' | b'\r')
 }
 
-/// Adds the rows of NDJSON to the script: a line is a row, except one of white space. A line ends
-/// only at LF, and at the end of the bytes.
+/// Adds the rows of NDJSON to the script. Each line is a row, except a line of only white space. A
+/// line ends only at LF and at the end of the bytes.
 pub fn add_objects(
     script: &mut Script<'_, '_>,
     rt: &HostRuntime,

@@ -1,6 +1,5 @@
 //! The program `mysql_bind`: it binds values from files, the environment, JSON and descriptors into
-//! a query. `mysql_bind_core` has what is bound and what is refused; here stands what reads the
-//! sources, and what is said of a refusal.
+//! a query. `mysql_bind_core` binds and refuses. This crate reads sources and reports refusals.
 #![tactic(auto)]
 
 mod all_faults;

@@ -7,7 +7,7 @@ use mysql_values::show::Shown;
 use std::alloc::{AllocError, Global};
 use std::collections::{BTreeMap, BTreeSet};
 
-/// A name of the query, and where it stands.
+/// A name of the query, and its place.
 #[derive(Drop)]
 pub struct NamePlace {
     /// The index of its colon.
@@ -16,7 +16,7 @@ pub struct NamePlace {
     pub name: Vec<u8>,
 }
 
-/// Adds a name to a set. Whether it wasn't there.
+/// Adds a name to a set, and returns whether the name is new.
 pub fn is_new<'n>(names: &mut BTreeSet<&'n [u8]>, name: &'n [u8]) -> Result<bool, AllocError> {
     match names.insert(name) {
         Ok(added) => Ok(added),
@@ -24,7 +24,7 @@ pub fn is_new<'n>(names: &mut BTreeSet<&'n [u8]>, name: &'n [u8]) -> Result<bool
     }
 }
 
-/// The number of each place by its name.
+/// The number of each place, by its name.
 pub fn place_numbers(
     alloc: Global,
     places: &[NamePlace],
@@ -71,7 +71,7 @@ pub fn assigned_names<'n>(
     Ok(names)
 }
 
-/// The number of each assignment by its name.
+/// The number of each assignment, by its name.
 pub fn assignment_numbers<'n>(
     alloc: Global,
     assignments: &'n [Assignment],
@@ -222,8 +222,8 @@ pub fn used_values(
     Ok(used)
 }
 
-/// The values, if each name of the query has one. Those without a name in it are refused, or left
-/// out.
+/// The values, if each name of the query has one. Values without a name in the query are refused,
+/// or left out with `allow_unused`.
 pub fn matched_values(
     alloc: Global,
     query: &QueryFile<'_>,

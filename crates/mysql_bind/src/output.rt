@@ -1,4 +1,4 @@
-//! Where the text is written: standard output, or a file, which is there whole or not at all.
+//! The output of the text: standard output, or a file, which is written whole or not at all.
 use crate::complaint::{Complaint, failed_file};
 use mysql_io::readers_and_writers::write_whole;
 use std::alloc::{AllocError, Global};

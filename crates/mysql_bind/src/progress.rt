@@ -1,10 +1,10 @@
-//! How far `rows` is, told on standard error.
+//! The progress of `rows`, which is reported on standard error.
 use clap::ArgMatches;
 use std::fmt;
 use std::io::IsTerminal;
 use std::time::Instant;
 
-/// So many rows are bound at once where progress is told.
+/// How many rows are bound at once if progress is reported.
 pub const ROWS_AT_ONCE: usize = 4096;
 
 // So many milliseconds pass between two lines, and before the first one unless it is asked for.
@@ -14,7 +14,7 @@ const BETWEEN: u64 = 1000;
 static SPACES: &str =
     "                                                                                        ";
 
-/// How far the rows of a table are, and what was told of it. A line that can't be written is left
+/// The progress of the rows of a table, and of its reports. A line that can't be written is left
 /// out.
 #[derive(Drop)]
 pub struct Progress {
@@ -62,8 +62,9 @@ impl fmt::Display for Tenths {
 }
 
 impl Progress {
-    /// Before the first row of a table of so many bytes. Progress is told if the words ask for it.
-    /// If they don't say, it is told on a terminal, except where the script goes to one too.
+    /// The state before the first row of a table of `total` bytes. `--progress` asks for reports,
+    /// and `--no-progress` for none. With neither, progress is reported if standard error is a
+    /// terminal, except if the script is streamed to a terminal.
     pub fn new(rt: &HostRuntime, matches: &ArgMatches<'_>, total: usize) -> Progress {
         let terminal = rt.stderr().is_terminal();
         let asked = matches.get_flag("progress");
@@ -80,7 +81,7 @@ impl Progress {
         }
     }
 
-    /// Whether it is told.
+    /// Whether progress is reported.
     pub fn is_told(&self) -> bool {
         self.begun.is_some()
     }
@@ -111,7 +112,7 @@ impl Progress {
         time.unwrap_or(0) / 1000
     }
 
-    /// Adds rows, up to a byte of the table, and tells how far they are if a line is due.
+    /// Adds rows, which end at a byte of the table, and reports progress if a line is due.
     pub fn add(&mut self, rt: &HostRuntime, rows: usize, bytes: usize) {
         if self.begun.is_none() {
             return;
@@ -148,8 +149,8 @@ impl Progress {
         self.shown = line.len();
     }
 
-    /// Ends what is told, so that messages begin on a line of their own: on a terminal the line is
-    /// wiped, and elsewhere the last one tells of all rows, if all were bound.
+    /// Ends the reports, so that messages begin on a line of their own. On a terminal the line is
+    /// wiped. Elsewhere a last line reports all rows, if all were bound.
     pub fn end(&mut self, rt: &HostRuntime) {
         if self.begun.is_none() {
             return;

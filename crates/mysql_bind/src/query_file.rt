@@ -1,4 +1,4 @@
-//! A query, the file that it was read from, and what is said of a refusal.
+//! A query, the file that it was read from, and the messages about refusals.
 use crate::changed_text::changed_text;
 use crate::complaint::{Complaint, Place, one_fault};
 use crate::construct_texts::ConstructTexts;
@@ -15,7 +15,7 @@ use std::alloc::{AllocError, Global};
 /// A query and its file.
 #[derive(Drop)]
 pub struct QueryFile<'a> {
-    /// The path as messages have it.
+    /// The path, in the form that messages have.
     pub path: &'a str,
     /// The query.
     pub bytes: Vec<u8>,
@@ -42,7 +42,8 @@ fn place_of(alloc: Global, query: &QueryFile<'_>, at: usize) -> Result<Place, Al
     Ok(Place::Line { path, line, column })
 }
 
-/// The places of bytes of a query that are asked for in their order. All take one walk over it.
+/// Lines and columns of bytes of a query, which have to be asked for in the order of the bytes. All
+/// of them take one walk over the query.
 #[derive(Drop)]
 pub struct PlacesInOrder<'q> {
     path: &'q str,
@@ -55,7 +56,7 @@ pub struct PlacesInOrder<'q> {
 }
 
 impl<'q> PlacesInOrder<'q> {
-    /// Before the first one.
+    /// The state before the first byte.
     pub fn new(query: &'q QueryFile<'_>) -> PlacesInOrder<'q> {
         PlacesInOrder {
             path: query.path,
@@ -66,7 +67,8 @@ impl<'q> PlacesInOrder<'q> {
         }
     }
 
-    /// The byte at this index, or the end. It doesn't stand before the last one.
+    /// The place of the byte at this index, or of the end. The index isn't before the last one that
+    /// was asked for.
     pub fn place_of(&mut self, alloc: Global, at: usize) -> Result<Place, AllocError> {
         let further = at.saturating_sub(self.at).min(self.rest.len());
         let (line, column) = line_and_column(self.rest, further);
@@ -106,11 +108,11 @@ pub struct PlaceAt {
     pub kind: PlaceKind,
     /// The index of its first byte.
     pub at: usize,
-    /// The index behind its last one.
+    /// The index behind its last byte.
     pub end: usize,
 }
 
-/// The places of a query, in their order.
+/// The places of a query, in order.
 pub fn places_of(alloc: Global, query: &WideQuery<'_>) -> Result<Vec<PlaceAt>, AllocError> {
     let mut places = Vec::new(alloc);
     let mut end = 0usize;
@@ -135,10 +137,10 @@ pub fn marks_of(alloc: Global, text: &[u8], mode: bool) -> Result<Vec<usize>, Al
     Ok(marks)
 }
 
-/// What is said of a mark.
+/// The message about a mark.
 pub static MARK: &str = "`?` has no name: write a name, as `:id`";
 
-/// What is said of a byte that isn't steady.
+/// The message about a byte that isn't steady.
 pub static UNSTEADY: &str = "a mode or a character set may read this byte otherwise: give it as a \
      value, or --literals=plain";
 
@@ -175,7 +177,7 @@ fn steady_refused(
     }
 }
 
-/// What is said of a name that doesn't stand alone.
+/// The message about a name that joins the text beside it.
 pub static JOINED: &str =
     "this name joins what stands beside it: write a space or a comma between them (and in a label \
      a space after its colon)";
@@ -247,7 +249,7 @@ fn place_index(alloc: Global, text: &[u8], number: usize) -> Result<usize, Alloc
     }
 }
 
-/// What is said of a refusal.
+/// The messages about a refusal.
 pub fn complaint_of(
     alloc: Global,
     query: &QueryFile<'_>,

@@ -60,7 +60,7 @@ fn place_refused(alloc: Global, path: &str, line: usize, column: usize, what: &s
 /// The bytes of a table.
 #[derive(Clone, Copy)]
 pub struct Table<'t> {
-    /// Its path, as messages have it.
+    /// Its path, in the form that messages have.
     pub path: &'t str,
     /// The format of its records.
     pub format: RecordFormat,
@@ -85,7 +85,7 @@ impl<'t> Table<'t> {
         line_and_column(self.bytes, at.min(self.bytes.len()))
     }
 
-    /// What is said of a fault in a rest of the bytes that begins at an index.
+    /// The message about a fault in the rest of the bytes from `start` on.
     pub fn fault_refused(self, alloc: Global, start: usize, fault: Fault) -> Complaint {
         let (line, column) = self.place_of(start.saturating_add(fault.at));
         place_refused(
@@ -97,8 +97,8 @@ impl<'t> Table<'t> {
         )
     }
 
-    /// What is said of a record that begins at an index, and has another number of fields than
-    /// there are columns.
+    /// The message about a record that begins at an index. Its number of fields isn't the number of
+    /// columns.
     pub fn length_refused(self, alloc: Global, at: usize, len: usize, columns: usize) -> Complaint {
         let (line, _) = self.place_of(at);
         let fields = if len == 1 { "field" } else { "fields" };
@@ -108,8 +108,8 @@ impl<'t> Table<'t> {
         }
     }
 
-    /// Reads the fields of the record at the front of a rest of the bytes, if there is one, and
-    /// gives the bytes behind it.
+    /// Reads the fields of the record at the front of a rest of the bytes, if there is one. It
+    /// returns the bytes behind the record.
     pub fn read(
         self,
         alloc: Global,
@@ -125,7 +125,7 @@ impl<'t> Table<'t> {
         }
     }
 
-    /// The number of records at the front of a rest of the bytes that have statements.
+    /// The number of records in a rest of the bytes.
     pub fn count_records(self, alloc: Global, rest: &'t [u8]) -> Result<usize, Complaint> {
         let mut fields = Vec::new(alloc);
         let mut rest = rest;
@@ -141,8 +141,8 @@ impl<'t> Table<'t> {
         Ok(count)
     }
 
-    /// Refuses a rest of the bytes that isn't records, or has one with another number of fields
-    /// than there are columns.
+    /// Refuses a rest of the bytes that doesn't consist of records, or has a record whose number of
+    /// fields isn't the number of columns.
     pub fn check_records(
         self,
         alloc: Global,
@@ -166,8 +166,8 @@ impl<'t> Table<'t> {
     }
 }
 
-/// The names of what is bound in each row: of the columns that are used, and of the values that are
-/// the same in each row.
+/// The names that are bound in each row: those of the columns that are used, and those of the
+/// values that are the same in each row.
 pub fn bound_names<'n>(
     alloc: Global,
     wanted: &'n Wanted<'_>,
@@ -204,7 +204,7 @@ fn fixed_cells<'n>(alloc: Global, wanted: &'n Wanted<'_>) -> Result<Vec<Cell<'n>
     Ok(cells)
 }
 
-/// The columns, as records are bound by them.
+/// The columns, in the form by which records are bound.
 pub fn table_columns<'c>(
     alloc: Global,
     columns: &'c [Column],

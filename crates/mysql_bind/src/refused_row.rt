@@ -1,4 +1,4 @@
-//! What is said of a row without a statement.
+//! Messages about a row without a statement.
 use crate::changed_text::changed_text;
 use crate::columns::Wanted;
 use crate::complaint::{Complaint, Fault, Place, add_fault, bad_row};
@@ -11,13 +11,13 @@ use std::alloc::{AllocError, Global};
 /// A row of a table.
 #[derive(Clone, Copy)]
 pub struct RowAt<'r> {
-    /// What it assigns.
+    /// Its assignments.
     pub assignments: &'r [Assignment],
     /// The line at which it begins.
     pub line: u64,
 }
 
-/// What is said of a row that is refused for this.
+/// The messages about a row that is refused for this reason.
 pub fn complaint_of_row(
     alloc: Global,
     wanted: &Wanted<'_>,

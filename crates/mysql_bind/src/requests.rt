@@ -1,10 +1,10 @@
-//! What the words ask of a query.
+//! The request that the options make.
 use crate::complaint::{Complaint, bad_word};
 use clap::ArgMatches;
 use mysql_bind_core::{Literals, Portability, Request};
 use std::alloc::Global;
 
-/// The request of the words.
+/// The request that the options make.
 pub fn request_of(alloc: Global, matches: &ArgMatches<'_>) -> Result<Request, Complaint> {
     let literals = literals_of(alloc, matches)?;
     let portability = if matches.get_flag("allow-unportable") {

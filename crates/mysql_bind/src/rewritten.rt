@@ -1,4 +1,4 @@
-//! A text in `"` of a query, written anew in `'`.
+//! A text in `"` of a query, rewritten in `'`.
 use std::alloc::{AllocError, Global};
 
 // A longer text is not repeated in a message.
@@ -20,8 +20,9 @@ fn shown_inside(token: &[u8]) -> Option<&[u8]> {
     }
 }
 
-/// The text in `'` that says, with backslash escapes, what a text in `"` says: `'say "it''s"'` for
-/// `"say \"it's\""`. None of a text that is open, longer than 200 bytes or not printable ASCII.
+/// The text in `'` with the same meaning as a text in `"`, both read with backslash escapes. An
+/// example is `'say "it''s"'` for `"say \"it's\""`. None if the text is open, longer than 200 bytes
+/// or not printable ASCII.
 pub fn in_single_quotes(alloc: Global, token: &[u8]) -> Result<Option<String>, AllocError> {
     let Some(inside) = shown_inside(token) else {
         return Ok(None);

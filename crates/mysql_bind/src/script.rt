@@ -1,4 +1,4 @@
-//! The rows that are bound, and what is said of a refused one.
+//! The rows that are bound, and the messages about a refused row.
 use crate::columns::Wanted;
 use crate::complaint::Complaint;
 use crate::output::write_text;
@@ -11,13 +11,13 @@ use mysql_bind_core::{
 };
 use std::alloc::{AllocError, Global};
 
-/// So many rows are written at once by `--stream`.
+/// How many rows `--stream` writes at once.
 pub const STREAMED_ROWS: usize = 256;
 
 /// The rows of a table, and how they are written.
 #[derive(Drop)]
 pub struct Script<'a, 'w> {
-    /// The query, and what the table is held against.
+    /// The query, and the requirements for the table.
     pub wanted: &'a Wanted<'w>,
     /// Whether a transaction is asked for.
     pub transaction: bool,
@@ -25,7 +25,7 @@ pub struct Script<'a, 'w> {
     pub stream: bool,
     /// Whether a row was written.
     pub begun: bool,
-    /// How far the rows are.
+    /// The progress of the rows.
     pub progress: Progress,
     /// The rows that aren't written yet.
     pub rows: Vec<Row>,
@@ -59,7 +59,7 @@ impl Script<'_, '_> {
         Ok(())
     }
 
-    /// Writes the rows that wait.
+    /// Writes the rows that aren't written yet.
     pub fn write_streamed(&mut self, rt: &HostRuntime) -> Result<(), Complaint> {
         if self.rows.is_empty() {
             return Ok(());
@@ -81,7 +81,7 @@ impl Script<'_, '_> {
         written
     }
 
-    /// Writes what is left, and what ends the script.
+    /// Writes the rest of the rows, and the end of the script.
     pub fn finish(&mut self, rt: &HostRuntime, output: Option<&str>) -> Result<(), Complaint> {
         if self.stream {
             self.write_streamed(rt)?;
@@ -127,8 +127,8 @@ impl Script<'_, '_> {
         }
     }
 
-    /// What is said of a row that can't be read, behind those so far: one of these that is refused
-    /// is told before it.
+    /// The messages about a row that can't be read, behind the rows so far. If one of those is
+    /// refused, that is reported first.
     pub fn refused_behind(&self, alloc: Global, complaint: Complaint) -> Complaint {
         let bound = script_of(
             alloc,

@@ -1,11 +1,11 @@
-//! What sources hold: files, descriptors and the environment.
+//! The bytes of sources: files, descriptors and the environment.
 use crate::complaint::{Complaint, bad_file, failed_file};
 use mysql_io::readers_and_writers::{ReadError, read_whole};
 use std::alloc::{AllocError, Global};
 use std::env::{Env, FillError};
 use std::fs;
 
-/// Reads sources, and each descriptor at most once: a second reading would find a pipe empty.
+/// Reads sources. Each descriptor is read at most once: a second read would find a pipe empty.
 #[derive(Drop)]
 pub struct Sources {
     taken: Vec<i32>,
@@ -26,7 +26,7 @@ fn descriptor_of(path: &str) -> Option<i32> {
     digits.parse::<i32>().ok()
 }
 
-/// The bytes without the mark of UTF-8 before them.
+/// The bytes without a byte order mark of UTF-8 before them.
 pub fn unmarked(bytes: &[u8]) -> &[u8] {
     match bytes {
         [0xEF, 0xBB, 0xBF, rest @ ..] => rest,
@@ -34,7 +34,7 @@ pub fn unmarked(bytes: &[u8]) -> &[u8] {
     }
 }
 
-/// A path as messages have it.
+/// A path, in the form that messages have.
 pub fn shown_path(path: &str) -> &str {
     if path == "-" {
         "(standard input)"
@@ -44,14 +44,14 @@ pub fn shown_path(path: &str) -> &str {
 }
 
 impl Sources {
-    /// No source was read.
+    /// The state before any source is read.
     pub fn new(alloc: Global) -> Sources {
         Sources {
             taken: Vec::new(alloc),
         }
     }
 
-    /// The whole of a file, or what standard input or a pipe has left.
+    /// The whole file, or the rest of standard input or of a pipe.
     pub fn read(&mut self, rt: &HostRuntime, path: &str) -> Result<Vec<u8>, Complaint> {
         match descriptor_of(path) {
             Some(number) => self.read_once(rt, path, number),

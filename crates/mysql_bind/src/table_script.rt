@@ -1,4 +1,4 @@
-//! The script of a table's records, and when it is written.
+//! The script of a table's records, written at once or piece by piece.
 use crate::columns::Wanted;
 use crate::complaint::Complaint;
 use crate::output::write_text;
@@ -8,22 +8,22 @@ use mysql_bind_core::{COMMIT, START};
 /// The statements of the rows so far.
 #[derive(Drop)]
 pub struct TableScript<'a, 'w> {
-    /// The query, and what the table is held against.
+    /// The query, and the requirements for the table.
     pub wanted: &'a Wanted<'w>,
     /// Whether a transaction is asked for.
     pub transaction: bool,
     /// Whether rows are written before all are bound.
     pub stream: bool,
-    /// Whether what begins the script was written.
+    /// Whether the beginning of the script was written.
     pub begun: bool,
-    /// How far the rows are.
+    /// The progress of the rows.
     pub progress: Progress,
-    /// What isn't written yet: with `stream` the statements of rows, else the script so far.
+    /// The text that isn't written yet: with `stream` statements of rows, else the script so far.
     pub text: Vec<u8>,
 }
 
 impl TableScript<'_, '_> {
-    /// Writes what begins the script, once.
+    /// Writes the beginning of the script, once.
     pub fn begin(&mut self, rt: &HostRuntime) -> Result<(), Complaint> {
         if self.transaction && !self.begun {
             write_text(rt, None, START)?;
@@ -32,7 +32,7 @@ impl TableScript<'_, '_> {
         Ok(())
     }
 
-    /// Writes the rows that wait.
+    /// Writes the statements that aren't written yet.
     pub fn write_streamed(&mut self, rt: &HostRuntime) -> Result<(), Complaint> {
         if self.text.is_empty() {
             return Ok(());
@@ -43,7 +43,7 @@ impl TableScript<'_, '_> {
         Ok(())
     }
 
-    /// Writes what is left, and what ends the script.
+    /// Writes the rest of the text, and the end of the script.
     pub fn finish(&mut self, rt: &HostRuntime, output: Option<&str>) -> Result<(), Complaint> {
         if self.stream {
             self.write_streamed(rt)?;

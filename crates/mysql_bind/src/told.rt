@@ -1,4 +1,4 @@
-//! Texts as messages show them: on one line, as JSON and as GitHub's annotations write them.
+//! The forms of texts in messages: on one line, as JSON, and in GitHub annotations.
 use mysql_values::show::Shown;
 use std::alloc::{AllocError, Global};
 use std::fmt;
@@ -23,8 +23,8 @@ fn is_shown(byte: u8) -> bool {
     byte >= b' ' && byte <= b'~'
 }
 
-/// A text that stays on its line: a control character, a separator and a sign of direction is shown
-/// as `\u{a}`, by its hexadecimal number.
+/// A text that stays on its line. Each control character, separator and sign of direction is shown
+/// by its hexadecimal number, such as `\u{a}`.
 #[derive(Clone, Copy)]
 pub struct OnOneLine<'a>(pub &'a str);
 
@@ -45,7 +45,7 @@ impl fmt::Display for OnOneLine<'_> {
     }
 }
 
-/// A name from a source: as it is, or by its bytes if it isn't UTF-8.
+/// A name from a source: unchanged if it is UTF-8, else by its bytes.
 #[derive(Clone, Copy)]
 pub struct SourceName<'a>(pub &'a [u8]);
 
@@ -77,7 +77,7 @@ pub fn json_text(alloc: Global, text: &str) -> Result<String, AllocError> {
     Ok(told)
 }
 
-/// A text as the message of an annotation, which is on one line.
+/// A text as the message of a GitHub annotation, which is on one line.
 pub fn github_text(alloc: Global, text: &str) -> Result<String, AllocError> {
     let line = format!(in alloc; "{}", OnOneLine(text))?;
     let mut told = String::new(alloc);
@@ -90,8 +90,9 @@ pub fn github_text(alloc: Global, text: &str) -> Result<String, AllocError> {
     Ok(told)
 }
 
-/// A text as a property of an annotation, which a comma and a colon would end. A newline and a
-/// carriage return are written as GitHub reads them, since a path is one of a file.
+/// A text as a property of a GitHub annotation. A comma or a colon would end the property, so both
+/// are escaped. A newline and a carriage return are escaped so that GitHub reads them back, since
+/// the path has to name the file.
 pub fn github_property(alloc: Global, text: &str) -> Result<String, AllocError> {
     let mut told = String::new(alloc);
     for letter in text.chars() {

@@ -1,4 +1,4 @@
-//! The assignments that the options make, and what is said of a wrong one.
+//! The assignments that the options make, and the messages about wrong ones.
 use crate::complaint::{Complaint, Fault, Place, add_fault, bad_file, bad_word, unusable};
 use crate::json_members::{Decimals, add_members};
 use crate::sources::{Sources, read_variable, shown_path, unmarked};
@@ -6,12 +6,12 @@ use clap::ArgMatches;
 use mysql_bind_core::{Assignment, ValueType, typed_fragment};
 use std::alloc::{AllocError, Global};
 
-/// Assignments, and where each comes from: an option and a name, or a file.
+/// Assignments, and the origin of each: an option and a name, or a file.
 #[derive(Drop)]
 pub struct Values {
     /// The assignments.
     pub assignments: Vec<Assignment>,
-    /// As many texts.
+    /// The origins of the assignments, one for each.
     pub origins: Vec<String>,
 }
 
@@ -24,7 +24,7 @@ impl Values {
         }
     }
 
-    /// Adds one.
+    /// Adds an assignment.
     pub fn add(
         &mut self,
         origin: String,
@@ -47,11 +47,11 @@ impl Values {
     }
 }
 
-/// The words of types.
+/// The names of the types, for messages.
 pub static TYPES: &str = "text, line, bytes, int, uint, bool, hex, base64, decimal, double, \
      identifier and list";
 
-/// The type of a word.
+/// The type with this name.
 pub fn type_of(word: &str) -> Option<ValueType> {
     match word {
         "text" => Some(ValueType::Text),
@@ -70,7 +70,7 @@ pub fn type_of(word: &str) -> Option<ValueType> {
     }
 }
 
-/// What is wrong with bytes that have no value of this type.
+/// The message about bytes that aren't valid for this type.
 pub fn wrong_value(value_type: ValueType) -> &'static str {
     match value_type {
         ValueType::Text => "is not UTF-8: give it as NAME:bytes",
@@ -110,7 +110,7 @@ fn newline_hint(alloc: Global, assignment: &Assignment) -> Result<&'static str, 
     }
 }
 
-/// A fault for each assignment whose bytes have no value of its type.
+/// A fault for each assignment whose bytes aren't valid for its type.
 pub fn wrong_values(alloc: Global, values: &Values) -> Result<Vec<Fault>, AllocError> {
     let mut faults = Vec::new(alloc);
     for i in 0..values.assignments.len() {
@@ -126,7 +126,7 @@ pub fn wrong_values(alloc: Global, values: &Values) -> Result<Vec<Fault>, AllocE
     Ok(faults)
 }
 
-/// Where the assignment of this number comes from.
+/// The origin of the assignment with this number.
 pub fn origin_at(values: &Values, number: usize) -> &str {
     match values.origins.get(number) {
         Some(origin) => origin.as_str(),
@@ -348,8 +348,8 @@ fn add_json(
     Ok(())
 }
 
-/// The assignments that the options make, in the order --set, --file, --env, --null, --json,
-/// --pairs.
+/// The assignments that the options make, in the order `--set`, `--file`, `--env`, `--null`,
+/// `--json`, `--pairs`.
 pub fn values_of(
     sources: &mut Sources,
     rt: &HostRuntime,

@@ -1,4 +1,4 @@
-//! The words of the program.
+//! The arguments of the program.
 use crate::complaint::{Complaint, ErrorForm, Place, bad_word, unusable};
 use clap::error::ErrorKind;
 use std::alloc::{AllocError, Global};
@@ -21,7 +21,7 @@ pub fn words_of(rt: &HostRuntime) -> Result<Vec<String>, Complaint> {
     Ok(words)
 }
 
-/// How faults are told, before the words are known to be right.
+/// The format in which faults are reported, before the arguments are known to be right.
 pub fn error_form_of(words: &[String]) -> ErrorForm {
     for i in 0..words.len() {
         let word = words[i].as_str();
@@ -163,7 +163,7 @@ fn usage_text(kind: ErrorKind) -> &'static str {
     }
 }
 
-/// What is said of words that are refused.
+/// The message about arguments that are refused.
 pub fn usage_complaint(
     alloc: Global,
     kind: ErrorKind,

@@ -1,4 +1,4 @@
--- What assignments give to the names of a query.
+-- The values that assignments give to the names of a query.
 use Rattle.std.specs.Prelude.{ℕ, List, [], ◌∷◌, Option, Some, None, option_map, option_and_then, Result, Ok}
 use Rattle.mysql_values.specs.declared.value.Value.{Value}
 use Rattle.mysql_params_core.specs.GivenValues.{Given, empty}
@@ -19,7 +19,7 @@ pairs_of [] = Some []
 pairs_of (a ∷ rest) =
     option_and_then (λ pair. option_map (λ pairs. pair ∷ pairs) (pairs_of rest)) (pair_of a)
 
--- what pairs give to a query: nothing, if there are none
+-- the values that pairs give to a query; empty if there are no pairs
 abbrev pub given_of : List (List ℕ × Value) → Result Given ToParamsRefusal
 given_of [] = Ok empty
 given_of (pair ∷ pairs) = given_by_name (pair ∷ pairs)
@@ -29,7 +29,7 @@ pub data PairsRefusal : Type 0 where
   -- the bytes of one mean no value
   no_value : PairsRefusal
 
--- the refusal for which the error stands; none for out of memory
+-- the refusal of an error; none for out of memory
 abbrev pub pairs_refusal : PairsError → Option PairsRefusal
 pairs_refusal error.NoValue = Some no_value
 pairs_refusal (error.Memory e) = None

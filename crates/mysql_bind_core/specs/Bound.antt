@@ -1,6 +1,6 @@
--- What is written for a request, a query and assignments: the bound text of the whole query, whose
--- values are exactly those that the bytes of the assignments mean. A query is read by wide names,
--- which may have capitals.
+-- The text that is written for a request, a query and assignments: the bound text of the whole
+-- query. Its values are exactly those that the bytes of the assignments mean. A query is read by
+-- wide names, which may have capitals.
 use Rattle.std.specs.Prelude.{◌≡◌, ℕ, true, false, List, ◌++◌, map, None, Some, Ok}
 use Rattle.mysql_values.specs.declared.value.Value.{Value}
 use Rattle.mysql_named_params.specs.LoweredNames.{lower_names}
@@ -42,7 +42,7 @@ abbrev pub IsPortableIfWanted : Request → List ℕ → Type 0
 IsPortableIfWanted request query = request.portability ≡ portability.Portable →
     OnWideTokens (mode_of request.literals) query (λ ts. IsPortableInClient (lower_names ts))
 
--- and the same of a text, in which no names are left
+-- the same for a text, in which no names are left
 abbrev pub IsTextPortableIfWanted : Request → List ℕ → Type 0
 IsTextPortableIfWanted request text = request.portability ≡ portability.Portable →
     OnTokens (mode_of request.literals) text IsPortableInClient
@@ -58,7 +58,7 @@ pub record IsTaken (request : Request) (query : List ℕ) : Type 0 where
   pub portable : IsPortableIfWanted request query
   pub is_named : IsNamed request query
 
--- the text with the literals that are asked for, of a query with these tokens and what is given
+-- the text of a query with these tokens and of the given values, with the literals asked for
 abbrev pub IsTextFor : Literals → Portability → List Token → Given → List ℕ → Type 0
 IsTextFor literals.Steady portability.Portable ts given text =
     IsWideAnywhereText ts given text
@@ -68,20 +68,19 @@ IsTextFor (literals.Plain mode) wanted ts given text = IsBoundText mode ts given
 -- the text that is written for assignments that are all values
 pub record IsValuesText (request : Request) (query : List ℕ) (assignments : List Assignment)
     (text : List ℕ) : Type 0 where
-  -- there are exactly the values that the bytes of the assignments mean, and what they give,
+  -- there are exactly the values that the bytes of the assignments mean, and these are given,
   pub pairs : List (List ℕ × Value)
   pub given : Given
   pub pairs_are : pairs_of assignments ≡ Some pairs
   pub given_is : given_of pairs ≡ Ok given
-  -- and the text is that of the whole query and of what is given
+  -- and the text is that of the whole query and of the given values
   pub bound : OnWideTokens (mode_of request.literals) query (λ ts.
       IsTextFor request.literals request.portability ts given text)
 
--- the text that is written for assignments of which one is an exact number, a double, a name or a
--- list
+-- the text that is written for assignments if one is an exact number, a double, a name or a list
 pub record IsFragmentsText (request : Request) (query : List ℕ) (assignments : List Assignment)
     (text : List ℕ) : Type 0 where
-  -- there are fragments that say exactly what the bytes of the assignments say, by their names,
+  -- there are fragments that say exactly the same as the bytes of the assignments, by their names,
   pub pairs : List (List ℕ × Fragment)
   pub entries : FragmentMap
   pub contents_are : contents_of assignments ≡ Some (map pair_said pairs)
@@ -96,15 +95,15 @@ pub data IsAssignedText (request : Request) (query : List ℕ) (assignments : Li
   -- all are values
   of_values : has_fragment assignments ≡ false → IsValuesText request query assignments text →
       IsAssignedText request query assignments text
-  -- one is none
+  -- one is a fragment
   of_fragments : has_fragment assignments ≡ true →
       IsFragmentsText request query assignments text →
       IsAssignedText request query assignments text
 
--- the text is what a request writes for this query and these assignments
+-- the text is the one that a request writes for this query and these assignments
 pub record IsWritten (request : Request) (query : List ℕ) (assignments : List Assignment)
     (text : List ℕ) : Type 0 where
-  -- the query is one that the request takes, and the text that of the assignments
+  -- the request takes the query, and the text is that of the assignments
   pub taken : IsTaken request query
   pub assigned : IsAssignedText request query assignments text
   -- and unless all queries are taken, the text itself is portable on servers and in a client

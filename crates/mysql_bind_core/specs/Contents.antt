@@ -1,5 +1,5 @@
--- What the bytes of a source put in the place of a name: a value, or an exact number, a double, a
--- name of a table or a column, or a list, which is a JSON array.
+-- The contents of a source's bytes for the place of a name: a value, an exact number, a double, a
+-- name of a table or a column, or a list. A list is a JSON array.
 use Rattle.std.specs.Prelude.{◌==◌, ◌||◌, ℕ, Bool, true, false, List, [], ◌∷◌, map, if◌then◌else◌, Option, Some, None, option_map, option_and_then, pos, is_none}
 use Rattle.std.specs.List.{list_any}
 use Rattle.std.specs.Option.{option_or}
@@ -21,9 +21,9 @@ use Rattle.mysql_bind_core.specs.declared.assignment.Assignment.{Assignment}
 use Rattle.mysql_bind_core.specs.declared.value_type.ValueType.{ValueType}
 use Rattle.mysql_bind_core.specs.declared.value_type.ValueType.TheVariants.{Decimal, Double, Identifier, List as ListType}
 
--- ---- what fragments say, without where their bytes stand in memory
+-- ---- the contents of fragments, without the place of their bytes in memory
 
--- what an item of a list says
+-- the content of an item of a list
 pub data ItemContent : Type 0 where
   -- a value
   value_item : Value → ItemContent
@@ -32,7 +32,7 @@ pub data ItemContent : Type 0 where
   -- a double
   double_number : Float → ItemContent
 
--- what stands in the place of a name
+-- the content of the place of a name
 pub data Content : Type 0 where
   -- a value
   value_content : Value → Content
@@ -47,13 +47,13 @@ pub data Content : Type 0 where
   -- rows, a qualified name, a keyword, columns or assignments, which no type gives
   other_content : Content
 
--- what an item says
+-- the content of an item
 abbrev pub item_said : Item → ItemContent
 item_said (one_item.Value v) = value_item v
 item_said (one_item.Decimal text) = exact_number text.items
 item_said (one_item.Double double) = double_number (double_value double)
 
--- what a fragment says
+-- the content of a fragment
 abbrev pub said : Fragment → Content
 said (one.Value v) = value_content v
 said (one.Decimal text) = number_content text.items
@@ -66,7 +66,7 @@ said (one.Keyword word) = other_content
 said (one.Identifiers columns) = other_content
 said (one.Assignments assignments) = other_content
 
--- ---- what bytes say
+-- ---- the contents of bytes
 
 -- the text is an exact number of at most 65 digits
 abbrev pub is_number : List ℕ → Bool
@@ -76,7 +76,7 @@ is_number text = is_none (number_fault 0 0 text)
 abbrev pub number_of : List ℕ → Option Content
 number_of text = if is_number text then Some (number_content text) else None
 
--- the double that all of the text reads as, the nearest one to its decimal number, if it is finite
+-- the double nearest to the decimal number that the whole text is, if the double is finite
 abbrev pub finite_double : List ℕ → Option Float
 finite_double text =
     option_and_then (λ x. if float_is_finite x then Some x else None) (parse_float binary64 text)
@@ -99,11 +99,12 @@ exact_item text = if is_number text then Some (exact_number text) else None
 abbrev pub double_item : List ℕ → Option ItemContent
 double_item text = option_map double_number (finite_double text)
 
--- an `e` stands in the text
+-- the text has an `e` or an `E`
 abbrev pub has_exponent : List ℕ → Bool
 has_exponent text = list_any (λ b. b == byte "e" || b == byte "E") text
 
--- the item of a number: with an exponent a double, else a whole one of 64 bits or an exact one
+-- the item of a number: a double if it has an exponent, else a whole number if 64 bits hold it, or
+-- else an exact number
 abbrev pub number_item : List ℕ → Option ItemContent
 number_item text =
     if has_exponent text then double_item text
@@ -119,7 +120,7 @@ item_of (string text) = Some (value_item (value.Bytes text))
 item_of (array items) = None
 item_of (object _) = None
 
--- what is found of each, in order; none if one has none
+-- the results for all elements, in order; none if one element has none
 abbrev pub all_of : {X Y : Type 0} → (X → Option Y) → List X → Option (List Y)
 all_of f [] = Some []
 all_of f (x ∷ xs) = option_and_then (λ y. option_map (λ ys. y ∷ ys) (all_of f xs)) (f x)
@@ -140,11 +141,11 @@ list_of_json (Some (string text)) = None
 list_of_json (Some (object _)) = None
 list_of_json None = None
 
--- the list that a JSON text says
+-- the list of a JSON text
 abbrev pub list_in : List ℕ → Option Content
 list_in bytes = if is_utf8 bytes then list_of_json (document bytes) else None
 
--- what the bytes say as this type; none if they say nothing
+-- the content of the bytes as this type; none if they have none
 abbrev pub content : ValueType → List ℕ → Option Content
 content Decimal bytes = number_of bytes
 content Double bytes = double_of bytes
@@ -162,15 +163,15 @@ is_value_type Identifier = false
 is_value_type ListType = false
 is_value_type value_type = true
 
--- one of the assignments is no value
+-- one of the assignments is a fragment
 abbrev pub has_fragment : List Assignment → Bool
 has_fragment assignments =
     list_any (λ a. if is_value_type a.value_type then false else true) assignments
 
--- the name of an assignment, and what its bytes say; none if they say nothing
+-- the name of an assignment, and the content of its bytes; none if they have none
 abbrev pub named_content : Assignment → Option (List ℕ × Content)
 named_content a = option_map (λ c. (a.name.items, c)) (content a.value_type a.bytes.items)
 
--- the name and the content of each assignment; none if the bytes of one say nothing
+-- the name and the content of each assignment; none if the bytes of one have none
 abbrev pub contents_of : List Assignment → Option (List (List ℕ × Content))
 contents_of = all_of named_content

@@ -18,7 +18,7 @@ use Rattle.mysql_bind_core.specs.declared.request.Portability.TheVariants as por
 abbrev pub pair_seen : Bor (List ℕ) × Fragment → List ℕ × Fragment
 pair_seen pair = (pair.0.now, pair.1)
 
--- the name of a fragment, and what the fragment says
+-- the name of a fragment, and the content of the fragment
 abbrev pub pair_said : List ℕ × Fragment → List ℕ × Content
 pair_said pair = (pair.0, said pair.1)
 
@@ -33,11 +33,11 @@ with_fragment (Ok entries) pair =
     else Ok (finite.insert entries pair.0 pair.1)
 with_fragment (Err name) pair = Err name
 
--- what pairs of a name and a fragment make, taken in order
+-- the fragments of pairs by name, or the first name that comes twice
 abbrev pub entries_of : List (List ℕ × Fragment) → Entries
 entries_of pairs = fold with_fragment (Ok finite.empty) pairs
 
--- the text with the literals that are asked for, of a query with these tokens and fragments
+-- the text of a query with these tokens and fragments, with the literals that are asked for
 abbrev pub IsFragmentsFor : Literals → Portability → List Token → GivenFragments → List ℕ → Type 0
 IsFragmentsFor literals.Steady portability.Portable ts given text =
     IsWideAnywhereFragments ts given text

@@ -15,7 +15,7 @@ value_in [] name = None
 value_in (pair ∷ pairs) name =
     if pointwise nat_eq name pair.0 then Some pair.1 else value_in pairs name
 
--- no name stands in two pairs
+-- no name is in two pairs
 abbrev pub are_distinct : List (List ℕ × Value) → Bool
 are_distinct [] = true
 are_distinct (pair ∷ pairs) = is_none (value_in pairs pair.0) && are_distinct pairs
@@ -24,7 +24,7 @@ are_distinct (pair ∷ pairs) = is_none (value_in pairs pair.0) && are_distinct 
 abbrev pub AreValuesIn : List (List ℕ × Value) → List (List ℕ) → List Value → Type 0
 AreValuesIn pairs names values = map (value_in pairs) names ≡ map (λ value. Some value) values
 
--- after these bytes stands the text of the query for what the pairs give, and nothing else
+-- after these bytes comes the text of the query for the values of the pairs, and nothing else
 pub record IsTextAppended (request : Request) (query : List ℕ) (pairs : List (List ℕ × Value))
     (before after : List ℕ) : Type 0 where
   pub given : Given

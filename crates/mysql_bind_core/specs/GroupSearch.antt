@@ -1,4 +1,4 @@
--- What is known while the rows of a group are read, and while its size is looked for.
+-- Facts that hold while the rows of a group are read, and while its size is looked for.
 use Rattle.std.specs.Prelude.{◌≡◌, ◌⊎◌, ◌+◌, ◌<◌, ◌≤◌, ℕ, true, false, List, [], length, map}
 use Rattle.mysql_bind_core.specs.Contents.{item_said}
 use Rattle.mysql_bind_core.specs.Groups.{AreUnfit, AreUnfitRecords, HasNoRow}
@@ -21,7 +21,7 @@ abbrev pub IsRestOf : TableForm → List ℕ → List ℕ → Type 0
 IsRestOf form text rest =
     (records : List Fields) × BeginsWithRecords form.format text records rest
 
--- what follows in the rest of a text
+-- the next row in the rest of a text
 abbrev pub IsNextRow : TableForm → List ℕ → List ℕ → NextRow → Type 0
 IsNextRow form text rest next.End = rest ≡ []
 IsNextRow form text rest (next.Row items more) =
@@ -29,8 +29,8 @@ IsNextRow form text rest (next.Row items more) =
 IsNextRow form text rest (next.Refused why) =
     FollowsNone form rest × HasNoRow form text rest why
 
--- The rows that are read at the front of a text, at most so many: if there are fewer, none follows.
--- Whether one does is known.
+-- The rows that are read at the front of a text, at most `most`. If there are fewer, no row
+-- follows. `last` is whether no row follows.
 pub record AreRead (form : TableForm) (text : List ℕ) (most : ℕ) (read : ReadRows) : Type 0 where
   pub records : List Fields
   pub begins : BeginsWithRows form text records (rows_said read.rows.items) read.rest.now
@@ -41,7 +41,7 @@ pub record AreRead (form : TableForm) (text : List ℕ) (most : ℕ) (read : Rea
   pub not_last : read.last ≡ false → FollowsRow form read.rest.now
       × (length read.rows.items ≡ most)
 
--- records at the front of a text, whose statement has at most as many bytes as are taken
+-- records at the front of a text, whose statement has at most `form.bytes` bytes
 pub record IsFit (query : RequestedQuery) (form : GroupForm) (text : List ℕ) (group : Group)
     : Type 0 where
   pub records : List Fields
@@ -56,8 +56,8 @@ pub record IsFit (query : RequestedQuery) (form : GroupForm) (text : List ℕ) (
   pub last : group.last ≡ true → FollowsNone form.table group.rest.now
   pub not_last : group.last ≡ false → FollowsRow form.table group.rest.now
 
--- So many records at the front of a text, more than one and at most as many as were asked for, are
--- unfit. If there are fewer than were asked for, no row follows.
+-- The first `count` records of a text, more than one and at most `most`, are unfit. If there are
+-- fewer than `most`, no row follows.
 pub record IsUnfitTry (query : RequestedQuery) (form : GroupForm) (text : List ℕ)
     (most count : ℕ) : Type 0 where
   pub records : List Fields
@@ -70,14 +70,14 @@ pub record IsUnfitTry (query : RequestedQuery) (form : GroupForm) (text : List �
   pub unfit : AreUnfit query form rows
   pub last : count < most → FollowsNone form.table rest
 
--- what came of so many records at the front of a text
+-- the result of a try with at most `most` records at the front of a text
 abbrev pub IsTried : RequestedQuery → GroupForm → List ℕ → ℕ → Tried → Type 0
 IsTried query form text most (tried.Fits group) =
     IsFit query form text group × (group.rows ≤ most)
     × (group.last ≡ false → group.rows ≡ most)
 IsTried query form text most (tried.Unfit count) = IsUnfitTry query form text most count
 
--- no group has more records than so many: as many as are taken, or with one more it is unfit
+-- no group has more than `most` records: `most` is `form.rows`, or one more record makes it unfit
 abbrev pub IsMost : RequestedQuery → GroupForm → List ℕ → ℕ → Type 0
 IsMost query form text most =
     (most ≡ form.rows) ⊎ AreUnfitRecords query form text (most + 1)

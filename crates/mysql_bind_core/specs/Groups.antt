@@ -1,5 +1,5 @@
--- The statements of groups of a table's records: of which records a group is, the groups of a text
--- up to a rest, and why the next record has no statement.
+-- The statements of groups of a table's records: the records of a group, the groups of a text up to
+-- a rest, and why the next record has no statement.
 use Rattle.std.specs.Prelude.{◌≡◌, ◌≢◌, ◌+◌, ◌<◌, ◌≤◌, ℕ, false, List, [], ◌∷◌, ◌++◌, None, length, drop, ⊤}
 use Rattle.mysql_bind_core.specs.Contents.{ItemContent}
 use Rattle.mysql_bind_core.specs.RowItems.{BeginsWithRow, BeginsWithRows, FollowsNone, RowsSaid, row_of}
@@ -16,16 +16,16 @@ use Rattle.mysql_bind_core.specs.declared.table_form.TableForm.{TableForm}
 
 -- ---- groups
 
--- rows that say this have no statement of so few bytes as are taken
+-- rows that say this have no statement of at most `form.bytes` bytes
 pub data AreUnfit (query : RequestedQuery) (form : GroupForm) (rows : RowsSaid) : Type 0 where
-  -- it is longer
+  -- their statement is longer
   too_long : (text : List ℕ) → IsRowsWritten query form.fixed.now rows text →
       form.bytes < length (statement text) → AreUnfit query form rows
   -- or they have none, for another reason than memory
   refused : (why : Failure) → is_of_memory why ≡ false →
       IsRowsBoundRefusal query form.fixed.now rows why → AreUnfit query form rows
 
--- so many records at the front of a text have rows, and these are unfit
+-- the first `count` records of a text have rows, and the rows are unfit
 pub record AreUnfitRecords (query : RequestedQuery) (form : GroupForm) (text : List ℕ) (count : ℕ)
     : Type 0 where
   pub records : List Fields
@@ -35,17 +35,17 @@ pub record AreUnfitRecords (query : RequestedQuery) (form : GroupForm) (text : L
   pub number : length records ≡ count
   pub unfit : AreUnfit query form rows
 
--- why a group of so many records at the front of a text, with this rest behind it, takes no further
--- one: it has as many as are taken, or no row follows, or with one more it is unfit
+-- why a group of `count` records at the front of a text, with this rest behind it, takes no further
+-- record: it has `form.rows` records, or no row follows, or one more record makes it unfit
 pub data IsFull (query : RequestedQuery) (form : GroupForm) (text : List ℕ) (count : ℕ)
     (rest : List ℕ) : Type 0 where
   of_rows : count ≡ form.rows → IsFull query form text count rest
   of_rest : FollowsNone form.table rest → IsFull query form text count rest
   of_next : AreUnfitRecords query form text (count + 1) → IsFull query form text count rest
 
--- A text begins with a group of these records, and this rest is behind them. The group has a
--- record, at most as many as are taken, and takes no further one; this text is written for it, of
--- which the statement has at most as many bytes as are taken.
+-- A text begins with a group of these records, and this rest is behind them. The group has from 1
+-- to `form.rows` records, and takes no further one. `written` is its text, whose statement has at
+-- most `form.bytes` bytes.
 pub record IsGroup (query : RequestedQuery) (form : GroupForm) (text : List ℕ)
     (records : List Fields) (rest written : List ℕ) : Type 0 where
   pub rows : RowsSaid
@@ -71,13 +71,13 @@ abbrev pub records_of : List (List Fields) → List Fields
 records_of [] = []
 records_of (records ∷ groups) = records ++ records_of groups
 
--- how many records the last group has, or as many as are given if there is none
+-- how many records the last group has, or the number `given` if there is no group
 abbrev pub last_count : ℕ → List (List Fields) → ℕ
 last_count given [] = given
 last_count given (records ∷ groups) = last_count (length records) groups
 
--- a text begins with these groups, and this rest is behind them; and behind what a script had
--- before stand their statements, and nothing else
+-- A text begins with these groups, and this rest is behind them. A script gets their statements
+-- behind its earlier bytes, and nothing else.
 pub record AreGroupsAppended (query : RequestedQuery) (form : GroupForm) (text : List ℕ)
     (groups : List (List Fields)) (rest before after : List ℕ) : Type 0 where
   pub texts : List (List ℕ)
@@ -100,7 +100,7 @@ HasNoRow form text rest (refusal.Long at number) = ⊥
 HasNoRow form text rest (refusal.Memory error) = ⊤
 
 -- Why the record at the front of the rest of a text has no statement, or out of memory: it has no
--- row, or its row alone is refused, or the statement of its row alone is too long.
+-- row, or a statement of only its row is refused or too long.
 pub data IsGroupRefused (query : RequestedQuery) (form : GroupForm) (text rest : List ℕ)
     (why : GroupRefusal) : Type 0 where
   without_row : HasNoRow form.table text rest why → IsGroupRefused query form text rest why

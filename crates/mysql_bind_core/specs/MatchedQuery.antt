@@ -1,5 +1,4 @@
--- What is known of a query that is matched with the columns of a table: the invariant of
--- `MatchedQuery`.
+-- The invariant of `MatchedQuery`, a query that is matched with the columns of a table.
 use Rattle.std.specs.Prelude.{◌≡◌, ◌<◌, ℕ, true, List, length, Option}
 use Rattle.std.specs.Option.{IfSome}
 use Rattle.std.specs.Global.{Vec}
@@ -10,7 +9,7 @@ use Rattle.mysql_bind_core.specs.Bound.{IsTaken}
 use Rattle.mysql_bind_core.specs.Cells.{AreNumbersOf, are_distinct_names}
 use Rattle.mysql_bind_core.specs.TakenQuery.{RequestedQuery, in_its_mode}
 
--- the places of a query have these numbers among columns with these names, of which no two are one
+-- the places of a query have these numbers among columns with these names, no two of them the same
 pub record HaveNumbers (query : QueryInMode) (columns : List (List ℕ)) (numbers : List ℕ)
     : Type 0 where
   pub some : 0 < length columns
@@ -18,7 +17,7 @@ pub record HaveNumbers (query : QueryInMode) (columns : List (List ℕ)) (number
   pub distinct : are_distinct_names columns ≡ true
   pub are : OnWideTokens query.mode query.query (λ ts. AreNumbersOf columns (names ts) numbers)
 
--- the request takes the query, and its places have the numbers, if there are some
+-- the request takes the query, and its places have the numbers, if there are numbers
 pub record AreMatched (taken : RequestedQuery) (columns : List (List ℕ))
     (numbers : Option (Vec ℕ)) : Type 0 where
   pub is_taken : IsTaken taken.request taken.query

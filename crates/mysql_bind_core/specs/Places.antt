@@ -1,4 +1,4 @@
--- Where a byte of a text stands, as editors count: its line and its column, both from 1.
+-- The place of a byte in a text, as editors count: its line and its column, both from 1.
 use Rattle.std.specs.Prelude.{ℕ, List, ◌+◌, ◌==◌, if◌then◌else◌, fold}
 use Rattle.mysql_bind_core.specs.ValueTypes.{newline}
 

@@ -1,14 +1,14 @@
 -- Queries that end within a token. A line with `;` after a query ends it, unless the query's last
--- token is open: then the `;` stands in it, as in `SELECT 'a`, and so would the next statement.
+-- token is open, as in `SELECT 'a`. Then the `;` and the next statement are part of that token.
 use Rattle.std.specs.Prelude.{ℕ, ◌+◌, nat_lt, List, [], ◌∷◌, length, if◌then◌else◌, Option, Some, None}
 use Rattle.mysql_named_params.specs.Tokens.{Token, bytes_of}
 use Rattle.mysql_bind_core.specs.ValueTypes.{newline}
 
--- what ends a statement: a newline and `;`
+-- the end of a statement: a newline and `;`
 abbrev pub end : List ℕ
 end = newline ∷ 59 ∷ []
 
--- where a last token begins, if it has several bytes
+-- the index at which a last token begins, if it has several bytes
 abbrev pub last_at : ℕ → ℕ → Option ℕ
 last_at at len = if nat_lt 1 len then Some at else None
 
@@ -20,6 +20,6 @@ long_end_from at (t ∷ []) = last_at at (length (bytes_of t))
 long_end_from at (t ∷ u ∷ ts) = long_end_from (at + length (bytes_of t)) (u ∷ ts)
 
 -- The index at which the last token begins, if it has several bytes. In a query with its end this
--- is the token in which the `;` stands, and the query is open; none if the `;` stands on its own.
+-- token has the `;` in it, and the query is open. None if the `;` is a token of its own.
 abbrev pub long_end : List Token → Option ℕ
 long_end = long_end_from 0

@@ -53,15 +53,15 @@ IsQueryRefusal request query failure.Marks =
 IsQueryRefusal request query (failure.Memory error) = ⊤
 IsQueryRefusal request query why = ⊥
 
--- whether the query is portable is asked of a copy of it: it has to be, it isn't refused before,
--- and a name has a capital
+-- the query is copied to check whether it is portable: it has to be portable, it isn't refused
+-- before, and a name has a capital
 abbrev pub IsCopied : Request → List ℕ → Type 0
 IsCopied request query =
     IsClosed request query × IsSteadyIfWanted request query
     × (request.portability ≡ portability.Portable)
     × OnWideTokens (mode_of request.literals) query (λ ts. have_capitals (names ts) ≡ true)
 
--- the failure for which an error of pairs stands
+-- the failure for an error of pairs
 abbrev pub pairs_failure : PairsError → Failure
 pairs_failure pairs.NoValue = failure.NoValue
 pairs_failure (pairs.Memory error) = failure.Memory error
@@ -86,7 +86,7 @@ IsEntriesRefusal made (failure.Redefined name) = made ≡ Err name.items
 IsEntriesRefusal made (failure.Memory error) = ⊤
 IsEntriesRefusal made why = ⊥
 
--- why these assignments give no fragments, or out of memory: the bytes of one say nothing, or a
+-- why these assignments give no fragments, or out of memory: the bytes of one have no content, or a
 -- name comes twice
 abbrev pub IsContentsRefusal : List Assignment → Failure → Type 0
 IsContentsRefusal assignments failure.NoValue = contents_of assignments ≡ None
@@ -100,7 +100,7 @@ abbrev pub looked_for : Portability → List Token → Option Unportable
 looked_for portability.Portable ts = first_unportable (lower_names ts)
 looked_for portability.Any ts = None
 
--- why what is given can't be bound, in the literals that are asked for, into a query with these
+-- why the given values can't be bound, in the literals that are asked for, into a query with these
 -- tokens
 abbrev pub IsTextRefusal : Literals → Portability → List ℕ → List Token → Given → Failure → Type 0
 IsTextRefusal (literals.Plain mode) wanted query ts given (failure.Plain error) =
@@ -118,8 +118,8 @@ IsFragmentsRefusal literals.Steady wanted query ts given (failure.SteadyFragment
     steady.IsWideSteadyRefusal query (looked_for wanted ts) ts given error
 IsFragmentsRefusal asked wanted query ts given why = ⊥
 
--- why nothing is written for assignments that are all values: they give nothing, or what they give
--- can't be bound
+-- why nothing is written for assignments that are all values: they give nothing, or the given
+-- values can't be bound
 pub data IsValuesRefusal (request : Request) (query : List ℕ) (assignments : List Assignment)
     (why : Failure) : Type 0 where
   of_assignments : IsAssignmentsRefusal assignments why →
@@ -130,7 +130,7 @@ pub data IsValuesRefusal (request : Request) (query : List ℕ) (assignments : L
       IsTextRefusal request.literals request.portability query ts given why) →
       IsValuesRefusal request query assignments why
 
--- the same for assignments of which one is none
+-- the same for assignments if one is a fragment
 pub data IsFragmentsTextRefusal (request : Request) (query : List ℕ)
     (assignments : List Assignment) (why : Failure) : Type 0 where
   of_contents : IsContentsRefusal assignments why →
@@ -147,8 +147,8 @@ IsFoundInText request text found =
     (request.portability ≡ portability.Portable)
     × OnTokens (mode_of request.literals) text (λ ts. Some found ≡ first_unportable_in_client ts)
 
--- why a request writes nothing for this query and these assignments: the query isn't taken, or the
--- assignments give nothing, or what they give can't be bound, or the text isn't portable
+-- why a request writes nothing for this query and these assignments: the query isn't taken, the
+-- assignments give nothing, they can't be bound, or the text isn't portable
 pub data IsRefusal (request : Request) (query : List ℕ) (assignments : List Assignment)
     (why : Failure) : Type 0 where
   of_query : IsQueryRefusal request query why → IsRefusal request query assignments why

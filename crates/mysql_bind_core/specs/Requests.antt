@@ -1,4 +1,4 @@
--- What is asked of the program.
+-- The mode of a request.
 use Rattle.std.specs.Prelude.{Bool, false}
 use Rattle.mysql_bind_core.specs.declared.request.Literals.{Literals}
 use Rattle.mysql_bind_core.specs.declared.request.Literals.TheVariants.{Steady, Plain}

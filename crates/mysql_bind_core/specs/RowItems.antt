@@ -1,4 +1,4 @@
--- What the fields of a record say as a row of `VALUES (..), (..)`: an item for each cell.
+-- The fields of a record as a row of `VALUES (..), (..)`: an item for each cell.
 use Rattle.std.specs.Prelude.{◌≡◌, ℕ, List, [], ◌∷◌, ◌++◌, Option, Some, None, length, map, option_and_then}
 use Rattle.std.specs.Global.{Vec}
 use Rattle.mysql_fragments.specs.declared.fragment.Item.{Item}
@@ -10,15 +10,15 @@ use Rattle.mysql_bind_core.specs.declared.table_form.TableForm.{TableForm}
 
 -- ---- items
 
--- what rows say: of each its items
+-- the contents of rows: the items of each
 abbrev pub RowsSaid : Type 0
 RowsSaid = List (List ItemContent)
 
--- the same without where their bytes stand in memory
+-- the contents of rows, without the place of their bytes in memory
 abbrev pub rows_said : List (Vec Item) → RowsSaid
 rows_said rows = map (λ row. map item_said row.items) rows
 
--- what stands in a row: a value, an exact number or a double; a name and a list are no items
+-- a content as an item of a row: a value, an exact number or a double; none for all others
 abbrev pub as_item : Content → Option ItemContent
 as_item (contents.value_content v) = Some (contents.value_item v)
 as_item (contents.number_content text) = Some (contents.exact_number text)
@@ -31,23 +31,23 @@ as_item contents.other_content = None
 abbrev pub cell_item : CellSaid → Option ItemContent
 cell_item cell = option_and_then as_item (content cell.0 cell.1)
 
--- the items of a record with these fields: of each column that is used, and behind those of what
--- each row has; none if the bytes of one say none
+-- the items of a record with these fields: those of each column that is used, then those that are
+-- the same in each row; none if the bytes of one say none
 abbrev pub row_of : TableForm → Fields → Option (List ItemContent)
 row_of form fields =
     all_of cell_item (fields_said form.columns.now fields ++ map cell_said form.fixed.now)
 
 -- ---- rows of a text
 
--- The text begins with a record of these fields, as many as there are columns, whose row has these
--- items; and this rest is behind the record's end.
+-- The text begins with a record of these fields, as many as there are columns. Its row has these
+-- items, and this rest is behind the record's end.
 pub record BeginsWithRow (form : TableForm) (text : List ℕ) (fields : Fields)
     (items : List ItemContent) (rest : List ℕ) : Type 0 where
   pub begins : BeginsWithRecord form.format text fields rest
   pub as_many : length fields ≡ length form.columns.now
   pub items_are : row_of form fields ≡ Some items
 
--- the text begins with these records, one behind the other, whose rows say this, and this rest is
+-- the text begins with these records, one behind the other, which have these rows, and this rest is
 -- behind the last one's end
 pub data BeginsWithRows (form : TableForm)
     : List ℕ → List Fields → RowsSaid → List ℕ → Type 0 where
@@ -62,8 +62,8 @@ abbrev pub FollowsRow : TableForm → List ℕ → Type 0
 FollowsRow form text = (fields : Fields) × (items : List ItemContent) × (rest : List ℕ)
     × BeginsWithRow form text fields items rest
 
--- The text begins with none: it is empty, or no record, or one with another number of fields than
--- there are columns, or one of which a field says no item.
+-- The text begins with no record that has a row. It is empty, or it begins with no record. Or the
+-- number of the record's fields isn't the number of columns, or a field says no item.
 abbrev pub FollowsNone : TableForm → List ℕ → Type 0
 FollowsNone form text = (fields : Fields) (items : List ItemContent) (rest : List ℕ)
     → BeginsWithRow form text fields items rest → ⊥

@@ -1,5 +1,5 @@
--- What is written for a row of a table, and why nothing is: as for all assignments that say what
--- its cells do.
+-- The text that is written for a row of a table, and why nothing is written: the same as for all
+-- assignments that say the same as the row's cells.
 use Rattle.std.specs.Prelude.{ℕ, List}
 use Rattle.mysql_bind_core.specs.Bound.{IsAssignedText, IsWritten}
 use Rattle.mysql_bind_core.specs.Cells.{AreAssigned, TableQuery}
@@ -8,7 +8,7 @@ use Rattle.mysql_bind_core.specs.declared.assignment.Assignment.{Assignment}
 use Rattle.mysql_bind_core.specs.declared.cell.Cell.{Cell}
 use Rattle.mysql_bind_core.specs.declared.failure.Failure.{Failure}
 
--- the text is written for whatever says what the cells do
+-- the text is written for all assignments that say the same as the cells
 abbrev pub IsRowText : TableQuery → List Cell → List ℕ → Type 0
 IsRowText query cells text = (assignments : List Assignment) →
     AreAssigned query.columns cells assignments →
@@ -20,7 +20,7 @@ IsAssignedRowText query cells text = (assignments : List Assignment) →
     AreAssigned query.columns cells assignments →
     IsAssignedText query.request query.query assignments text
 
--- why nothing is written for whatever says what the cells do
+-- why nothing is written for all assignments that say the same as the cells
 abbrev pub IsRowRefusal : TableQuery → List Cell → Failure → Type 0
 IsRowRefusal query cells why = (assignments : List Assignment) →
     AreAssigned query.columns cells assignments →

@@ -24,8 +24,8 @@ use Rattle.mysql_bind_core.specs.declared.failure.Failure.TheVariants as failure
 abbrev pub row_name : List ℕ
 row_name = codes "row"
 
--- fragments by name: those that say exactly what these assignments say, and under `row` one more,
--- whose rows say exactly this
+-- fragments by name: exactly those of these assignments, and under the name `row` one more, which
+-- has exactly these rows
 pub record AreEntriesOf (fixed : List Assignment) (rows : RowsSaid) (entries : FragmentMap)
     : Type 0 where
   pub pairs : List (List ℕ × Fragment)
@@ -42,17 +42,17 @@ pub record IsRowsText (query : RequestedQuery) (fixed : List Assignment) (rows :
   pub bound : OnWideTokens (mode_of query.request.literals) query.query (λ ts.
       IsFragmentsFor query.request.literals query.request.portability ts (named entries) text)
 
--- the text is what a request writes for a query, these assignments, and rows that say this
+-- the text is the one that a request writes for a query, these assignments and rows that say this
 pub record IsRowsWritten (query : RequestedQuery) (fixed : List Assignment) (rows : RowsSaid)
     (text : List ℕ) : Type 0 where
-  -- the query is one that the request takes, and the text that of the assignments and the rows
+  -- the request takes the query, and the text is that of the assignments and the rows
   pub taken : IsTaken query.request query.query
   pub text_is : IsRowsText query fixed rows text
   -- and unless all queries are taken, the text itself is portable on servers and in a client
   pub portable_text : IsTextPortableIfWanted query.request text
 
--- why there is none: the assignments say nothing, or `row` is among them, or the fragments can't be
--- bound, or the text isn't portable; or out of memory
+-- why there is no such text, or out of memory: the assignments give no fragments, `row` is among
+-- them, the fragments can't be bound, or the text isn't portable
 pub data IsRowsBoundRefusal (query : RequestedQuery) (fixed : List Assignment) (rows : RowsSaid)
     (why : Failure) : Type 0 where
   of_contents : IsContentsRefusal fixed why → IsRowsBoundRefusal query fixed rows why

@@ -11,7 +11,8 @@ use Rattle.mysql_portable.specs.Statements.{statements}
 use Rattle.mysql_bind_core.specs.declared.request.Literals.{Literals}
 use Rattle.mysql_bind_core.specs.declared.request.Literals.TheVariants as literals
 
--- a mode in which texts with such literals are read: either with steady ones, theirs with plain
+-- a mode in which texts with such literals are read: either mode for steady literals, and for plain
+-- literals their own
 abbrev pub IsReadIn : Literals → Bool → Type 0
 IsReadIn literals.Steady mode = ⊤
 IsReadIn (literals.Plain own) mode = own ≡ mode
@@ -41,7 +42,7 @@ with_newline [] = Plain newline ∷ []
 with_newline (t ∷ []) = then_newline t
 with_newline (t ∷ u ∷ ts) = t ∷ with_newline (u ∷ ts)
 
--- the tokens of a statement, by those of its text: those, a newline, `;` and a newline
+-- the tokens of a statement: those of its text, a newline, `;` and a newline
 abbrev pub statement_tokens : List Token → List Token
 statement_tokens ts = with_newline ts ++ (Plain semicolon ∷ Plain newline ∷ [])
 
@@ -50,23 +51,22 @@ abbrev pub tokens_of_statements : List (List Token) → List Token
 tokens_of_statements [] = []
 tokens_of_statements (ts ∷ lists) = statement_tokens ts ++ tokens_of_statements lists
 
--- with the newline after it, each of these texts passes the tests of a portable query
+-- each of these texts, with the newline after it, passes the tests of a portable query
 abbrev pub AreLinesReadAlike : List (List Token) → Type 0
 AreLinesReadAlike [] = ⊤
 AreLinesReadAlike (ts ∷ lists) = AreReadAlike (with_newline ts) × AreLinesReadAlike lists
 
--- none of the constructs of a client that keeps comments is among these tokens: no block comment
--- holds `/*!`, `/*+` or `/*/`, and nothing is found for which the client would send something else
+-- None of the constructs of a client that keeps comments is among these tokens. No block comment
+-- holds `/*!`, `/*+` or `/*/`, and no token makes the client send a different text.
 abbrev pub IsSentByClient : List Token → Type 0
 IsSentByClient ts = HoldNoOpener ts × AreSentAsTheyAre ts
 
--- how many statements these texts have together, as clients cut them (Statements.antt of
--- mysql_portable)
+-- how many statements clients cut these texts into, together (Statements.antt of mysql_portable)
 abbrev pub count_of_statements : List (List Token) → ℕ
 count_of_statements [] = 0
 count_of_statements (ts ∷ lists) = length (statements ts) + count_of_statements lists
 
--- the tokens of a statement of words alone: one for each byte
+-- the tokens of a statement of only words: one for each byte
 abbrev pub word_tokens : List ℕ → List Token
 word_tokens bytes = statement_tokens (map (λ b. Plain b) bytes)
 

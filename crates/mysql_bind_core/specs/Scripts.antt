@@ -1,6 +1,6 @@
--- The script of a query and of rows: a statement for each row, in the order of the rows. A
--- statement is the bound text of its row, and a line with `;`: after a comment to the end of the
--- line a `;` would stand in it.
+-- The script of a query and rows: a statement for each row, in the order of the rows. A statement
+-- is the bound text of its row, and a line with `;`. The `;` has a line of its own, since a comment
+-- to the end of the line would take it.
 use Rattle.std.specs.Prelude.{◌≡◌, ◌<◌, ℕ, Bool, List, [], ◌∷◌, ◌++◌, length, take, get_or, codes, if◌then◌else◌, ⊤}
 use Rattle.mysql_bind_core.specs.Bound.{IsTaken, IsWritten}
 use Rattle.mysql_bind_core.specs.Refusals.{IsQueryRefusal, IsRefusal}
@@ -19,7 +19,8 @@ abbrev pub script : List (List ℕ) → List ℕ
 script [] = []
 script (text ∷ texts) = statement text ++ script texts
 
--- each text is what the request writes for the row of the same number, and there are no others
+-- each text is the one that the request writes for the row of the same number, and there are no
+-- others
 abbrev pub AreWritten : Request → List ℕ → List Row → List (List ℕ) → Type 0
 AreWritten request query [] [] = ⊤
 AreWritten request query (row ∷ rows) (text ∷ texts) =
@@ -27,18 +28,18 @@ AreWritten request query (row ∷ rows) (text ∷ texts) =
 AreWritten request query [] (text ∷ texts) = ⊥
 AreWritten request query (row ∷ rows) [] = ⊥
 
--- after these bytes stand the statements of these rows, and nothing else
+-- after these bytes come the statements of these rows, and nothing else
 pub record AreStatements (request : Request) (query : List ℕ) (rows : List Row)
     (before after : List ℕ) : Type 0 where
   pub texts : List (List ℕ)
   pub written : AreWritten request query rows texts
   pub bytes : after ≡ before ++ script texts
 
--- what begins a script: if a transaction is asked for, its statement
+-- the bytes that begin a script: with a transaction, the statement that starts it
 abbrev pub opening : Bool → List ℕ
 opening transaction = if transaction then statement (codes "START TRANSACTION") else []
 
--- what ends a script: if a transaction is asked for, its statement
+-- the bytes that end a script: with a transaction, the statement that commits it
 abbrev pub closing : Bool → List ℕ
 closing transaction = if transaction then statement (codes "COMMIT") else []
 
@@ -49,7 +50,7 @@ pub record IsScript (request : Request) (query : List ℕ) (rows : List Row) (tr
   pub written : AreWritten request query rows texts
   pub whole : bytes ≡ (opening transaction ++ script texts) ++ closing transaction
 
--- the row of this number is refused for this, and the rows before it have texts
+-- the row of this number is refused for this reason, and the rows before it have texts
 pub record IsRefusedRow (request : Request) (query : List ℕ) (rows : List Row) (number : ℕ)
     (why : Failure) : Type 0 where
   pub row : Row
@@ -77,7 +78,7 @@ abbrev pub IfRow : RowsFailure → (ℕ → Type 0) → Type 0
 IfRow (failure.Row refused) P = P refused.number
 IfRow why P = ⊤
 
--- if it is out of memory by itself, and not for the query or a row, this holds
+-- if the refusal is `Memory` itself, not one of the query or of a row, this holds
 abbrev pub IfMemory : RowsFailure → Type 0 → Type 0
 IfMemory (failure.Memory error) P = P
 IfMemory why P = ⊤

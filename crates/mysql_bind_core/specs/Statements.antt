@@ -6,19 +6,19 @@ use Rattle.mysql_binding.specs.BoundStatements.{statements_with_literals}
 use Rattle.mysql_binding.specs.Pieces.{pieces, joined_text}
 use Rattle.mysql_binding.specs.Replaced.{AreTokensOf, with_literal_tokens}
 
--- A client reads a query with the tokens `ts`, and its names in lower case, as `us`, and the text
--- that is bound to it as `vs`: those are `us`, with the tokens of what the text has in a place for
--- each name, and so is each statement of the text the statement of the query.
+-- A client reads a query with the tokens `ts`, and its names in lower case, as the tokens `us`. It
+-- reads the bound text as the tokens `vs`. These are `us` with each name replaced by the tokens
+-- that the text has in its place. The statements of the text are those of the query, replaced
+-- likewise.
 pub data AreReplaced (mode : Bool) (ts : List Token) (text : List ℕ) (us vs : List Token)
     : Type 0 where
-  -- one literal stands in each place
+  -- each place has one literal
   with_values : (literals : List (List ℕ)) (lists : List (List Token)) →
       joined_text (pieces ts) literals ≡ Some text → AreTokensOf mode literals lists →
       vs ≡ with_literal_tokens us lists →
       statements vs ≡ statements_with_literals (statements us) lists →
       AreReplaced mode ts text us vs
-  -- one fragment stands in each place, which makes another query, and one literal in each place of
-  -- that
+  -- each place has one fragment, which makes another query, and each place of that has one literal
   with_fragments : (fragments : List (List ℕ)) (lists : List (List Token)) (query : List ℕ) →
       joined_text (pieces ts) fragments ≡ Some query → AreTokensOf mode fragments lists →
       (literals : List (List ℕ)) (more : List (List Token)) →

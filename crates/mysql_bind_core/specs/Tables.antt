@@ -22,15 +22,15 @@ use Rattle.mysql_bind_core.specs.declared.table_form.TableRefusal.TheVariants as
 
 -- ---- the cells of a record
 
--- the fields of a record: of each its bytes, or none where it is NULL
+-- the fields of a record: the bytes of each, or none for a NULL
 abbrev pub Fields : Type 0
 Fields = List (Option (List ℕ))
 
--- what a cell says: a type, and bytes
+-- the contents of a cell: a type, and bytes
 abbrev pub CellSaid : Type 0
 CellSaid = ValueType × List ℕ
 
--- the same of a cell, without where its bytes stand in memory
+-- the contents of a cell, without the place of its bytes in memory
 abbrev pub cell_said : Cell → CellSaid
 cell_said cell = (cell.value_type, cell.bytes.now)
 
@@ -39,8 +39,8 @@ abbrev pub is_null_text : Option (Bor (List ℕ)) → List ℕ → Bool
 is_null_text None bytes = false
 is_null_text (Some text) bytes = bytes_eq text.now bytes
 
--- What a field says for its column: NULL without bytes; its bytes as NULL, if they are the column's
--- null text; else its bytes as the column's type.
+-- The contents of a field for its column. A NULL is the type NULL without bytes. The column's null
+-- text is the type NULL with its bytes. All other bytes have the column's type.
 abbrev pub field_said : TableColumn → Option (List ℕ) → CellSaid
 field_said column None = (Null, [])
 field_said column (Some bytes) =
@@ -50,14 +50,14 @@ field_said column (Some bytes) =
 abbrev pub column_said : TableColumn → Option (List ℕ) → List CellSaid
 column_said column field = if column.used then field_said column field ∷ [] else []
 
--- the same of each field for the column of the same number
+-- the same for each field and the column of the same number
 abbrev pub fields_said : List TableColumn → Fields → List CellSaid
 fields_said [] fields = []
 fields_said (column ∷ columns) [] = []
 fields_said (column ∷ columns) (field ∷ fields) =
     column_said column field ++ fields_said columns fields
 
--- the cells say what the fields of a record do, and behind that what each row has
+-- the cells say the same as the fields of a record, and then the same as the cells of each row
 abbrev pub AreCellsOf : TableForm → Fields → List Cell → Type 0
 AreCellsOf form fields cells =
     map cell_said cells
@@ -93,7 +93,7 @@ AreRecordTexts query form [] (text ∷ texts) = ⊥
 AreRecordTexts query form (fields ∷ records) [] = ⊥
 
 -- The text begins with these records, each with as many fields as there are columns, and this rest
--- is behind them; and behind what a script had before stand their statements, and nothing else.
+-- is behind them. A script gets their statements behind its earlier bytes, and nothing else.
 pub record AreAppended (query : TableQuery) (form : TableForm) (text : List ℕ)
     (records : List Fields) (rest before after : List ℕ) : Type 0 where
   pub read : BeginsWithRecords form.format text records rest
@@ -102,8 +102,8 @@ pub record AreAppended (query : TableQuery) (form : TableForm) (text : List ℕ)
   pub written : AreRecordTexts query form records texts
   pub bytes : after ≡ before ++ script texts
 
--- the assignments of each row say what the cells of the record of the same number do, and there are
--- no other rows
+-- the assignments of each row say the same as the cells of the record of the same number, and there
+-- are no other rows
 abbrev pub AreRowsOf : TableQuery → TableForm → List Fields → List Row → Type 0
 AreRowsOf query form [] [] = ⊤
 AreRowsOf query form (fields ∷ records) (row ∷ rows) =
@@ -115,15 +115,15 @@ AreRowsOf query form (fields ∷ records) [] = ⊥
 
 -- ---- refused records
 
--- at this index of a text begins its rest, and that begins with a record of these fields
+-- the rest of a text begins at this index of the text, and begins with a record of these fields
 pub record IsRecordAt (form : TableForm) (text rest : List ℕ) (at : ℕ) (fields : Fields)
     : Type 0 where
   pub place : drop at text ≡ rest
   pub more : List ℕ
   pub begins : BeginsWithRecord form.format rest fields more
 
--- A text is no table, and this fault is the first in it. It stands in this rest of the text, which
--- isn't empty and begins with no record.
+-- A text is no table, and this fault is the first in it. The fault is in this rest of the text,
+-- which isn't empty and begins with no record.
 pub record IsFaultBehind (form : TableForm) (text rest : List ℕ) (fault : Fault) : Type 0 where
   pub first : IsFaultyTable form.format text fault
   pub place : length text ≤ fault.at + length rest

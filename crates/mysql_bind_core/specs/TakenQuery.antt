@@ -1,12 +1,11 @@
--- What contracts see of a query that a request takes, and what is known of it: the invariant of
--- `TakenQuery`.
+-- The view that contracts have of a query that a request takes, and the invariant of `TakenQuery`.
 use Rattle.std.specs.Prelude.{◌≡◌, ℕ, List}
 use Rattle.mysql_binding.specs.ParsedQuery.{QueryInMode}
 use Rattle.mysql_bind_core.specs.Bound.{IsTaken}
 use Rattle.mysql_bind_core.specs.Requests.{mode_of}
 use Rattle.mysql_bind_core.specs.declared.request.Request.{Request}
 
--- a query, and what is asked of it
+-- a query and a request
 pub record RequestedQuery : Type 0 where
   pub query : List ℕ
   pub request : Request

@@ -1,5 +1,5 @@
--- What the bytes of a source mean as a value of a type. Dates and times are texts: their literal is
--- that of the text. Exact numbers, doubles, names and lists are no values (Contents.antt).
+-- The values of a source's bytes by their type. Dates and times are texts: their literal is that of
+-- the text. Exact numbers, doubles, names and lists are fragments (Contents.antt).
 use Rattle.std.specs.Prelude.{◌-◌, ℕ, Bool, true, false, List, [], ◌∷◌, codes, length, take, if◌then◌else◌, nat_eq, Option, Some, None, option_map, Result, Ok, Err, pos, unsigned_abs}
 use Rattle.std.specs.List.{list_any, ends_with}
 use Rattle.std.specs.Option.{option_or}

@@ -1,4 +1,4 @@
-//! What names are assigned, as their sources give it: the values that it makes, or the fragments.
+//! Assignments: the bytes that sources have for names, and the values or fragments they make.
 ghost use Rattle.std.specs.Prelude.{◌≡◌, ◌≢◌, map, ok_or, ⊤, ℕ, List, Some, Ok, IfOk, IfErr, OnOk};
 ghost use Rattle.std.specs.FinMap.{contains_key};
 ghost use Rattle.mysql_values.specs.Answer.{IsAnswer};
@@ -18,14 +18,14 @@ use mysql_values::value::Value;
 use std::alloc::{AllocError, AllocFailed, Global};
 use std::collections::HashMap;
 
-/// A name of a query, and the bytes that a value is made of.
+/// A name of a query, and the bytes from which the value or fragment in its place is made.
 #[derive(Debug, Drop)]
 pub struct Assignment {
     /// The name, without its colon.
     pub name: Vec<u8>,
-    /// How the bytes are taken.
+    /// How the bytes are interpreted.
     pub value_type: ValueType,
-    /// What the source holds.
+    /// The bytes of the source.
     pub bytes: Vec<u8>,
 }
 
@@ -86,7 +86,7 @@ fn pair_of(alloc: Global, assignment: &Assignment) -> Result<(&[u8], Value), Pai
     }
 }
 
-// Whether one of the assignments is no value.
+// Whether one of the assignments is a fragment.
 pub(crate) fn has_fragment(assignments: &[Assignment]) -> bool
     ensures { result ≡ has_fragment assignments.now }
 {
@@ -95,7 +95,7 @@ pub(crate) fn has_fragment(assignments: &[Assignment]) -> bool
         .any(|assignment| !is_value_type(assignment.value_type))
 }
 
-// What assignments give by name.
+// The fragments of assignments, by name.
 pub(crate) fn assigned_fragments(
     alloc: Global,
     assignments: &[Assignment],
@@ -136,7 +136,7 @@ fn fragment_of(alloc: Global, assignment: &Assignment) -> Result<(&[u8], Fragmen
     }
 }
 
-// The fragments by name, each of which comes once.
+// The fragments by name. A name that comes twice is refused.
 fn entries_of(
     alloc: Global,
     pairs: Vec<(&[u8], Fragment)>,

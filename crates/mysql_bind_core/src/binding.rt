@@ -13,8 +13,8 @@ use std::alloc::Global;
 use std::io::Write;
 
 /// The query with the literals of the assigned values in the places of its wide names, or the
-/// refusal. It is never `Write`, and `Memory` only if the request takes the query, or in place of
-/// `Unportable` and `Marks` if a name has a capital.
+/// refusal. The refusal is never `Write`. It is `Memory` only if the request takes the query, or,
+/// if a name has a capital, in place of `Unportable` and `Marks`.
 pub fn bound_text(
     alloc: Global,
     query: &[u8],
@@ -34,12 +34,13 @@ pub fn bound_text(
 
 /// Binds the assigned values to the wide names of the query, and writes the whole text, or refuses.
 ///
-/// Whatever it writes is the bound text of the whole query, in the literals that are asked for, and
-/// for exactly the values that the bytes of the assignments mean. A query and its text are refused
-/// unless every server and the clients read them alike, except if all queries are asked for.
-/// Nothing was written with any refusal except `Write`. Out of memory may come in place of any
-/// other result, if the request takes the query. It may come in place of `Unportable` and `Marks`,
-/// if a name has a capital.
+/// The text is the bound text of the whole query, with the literals that are asked for. Its values
+/// are exactly those that the bytes of the assignments mean. Unless all queries are taken, it
+/// writes only if every server and the clients read the query and the text alike.
+///
+/// Every refusal except `Write` means that nothing was written. `Memory` may come in place of any
+/// other result, if the request takes the query. If a name has a capital, it may come in place of
+/// `Unportable` and `Marks`.
 pub fn write_bound<W: Write>(
     alloc: Global,
     query: &[u8],
@@ -60,7 +61,7 @@ pub fn write_bound<W: Write>(
     // A refusal has written nothing.
     ensures unwritten { IfErr result (λ e. e ≢ Failure.Write → output.new ≡ output.old) }
 
-    // A failed write has written a prefix of what would have been written.
+    // A failed write has written a prefix of the text.
     ensures begun { IsErrOf result Failure.Write → (text : List ℕ)
         × IsWritten request query.now assignments.now text
         × AppendsPrefix (W.contents output.old) (W.contents output.new) text }

@@ -1,4 +1,4 @@
-//! The cells of a row, where their bytes lie, and the values that they have.
+//! The cells of a row, which borrow their bytes, and the values of cells.
 ghost use Rattle.std.specs.Prelude.{◌≡◌, List, map, Some, IfOk, IfSome, length, option_map};
 ghost use Rattle.mysql_values.specs.BorrowedValue.{owned};
 ghost use Rattle.mysql_bind_core.specs.Cells.{AreAssigned, cell_value, value_said};
@@ -8,16 +8,16 @@ use crate::value_type::{ValueType, lent_value, typed_value};
 use mysql_values::value::{Value, ValueRef};
 use std::alloc::{AllocError, Global};
 
-/// What a source has for a column in one row.
+/// The bytes that a source has for a column in one row.
 #[derive(Debug, Clone, Copy)]
 pub struct Cell<'c> {
-    /// How the bytes are taken.
+    /// How the bytes are interpreted.
     pub value_type: ValueType,
-    /// What the source holds, where it lies.
+    /// The bytes of the source, borrowed.
     pub bytes: &'c [u8],
 }
 
-// The value of a cell: of the bytes where they lie, or of bytes that are made of them.
+// The value of a cell. It borrows the cell's bytes, or owns bytes that were decoded from them.
 #[derive(Drop)]
 pub(crate) enum CellValue<'c> {
     Lent(ValueRef<'c>),
@@ -36,7 +36,7 @@ impl CellValue<'_> {
     }
 }
 
-// The value of a cell, if its bytes have one of its type. Only bytes that are decoded are made.
+// The value of a cell, if its bytes have one of its type. Memory is taken only for decoded bytes.
 fn cell_value<'c>(alloc: Global, cell: Cell<'c>) -> Result<Option<CellValue<'c>>, AllocError>
     ensures { IfOk result (λ found. option_map value_said found ≡ cell_value cell.entry) }
 {

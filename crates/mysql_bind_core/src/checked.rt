@@ -1,5 +1,5 @@
-//! Why a request doesn't take a query, whatever is assigned to its names: at first, that it ends
-//! within a token, so that what follows it would stand in it.
+//! Why a request doesn't take a query, whatever is assigned to its names. The first reason is that
+//! the query ends within a token: the text after the query would be part of that token.
 ghost use Rattle.std.specs.Prelude.{◌≡◌, ◌≢◌, ◌++◌, IfErr, IsErrOf, OnOk, alloc_error, ℕ, Some, None, [], length, true, false, IsTrue};
 ghost use Rattle.mysql_sql_text.specs.StringUnits.{is_escape};
 ghost use Rattle.mysql_named_params.specs.Bytes.{is_string_quote};
@@ -53,8 +53,8 @@ fn check_end(query: &SurveyedQuery<'_>, request: Request) -> Result<(), Failure>
     }
 }
 
-// Whether the query is steady and portable, if it has to be. Most that have to be both pass by one
-// quick walk.
+// Whether the query is steady and portable, if it has to be. Most queries that have to be both pass
+// in one quick walk.
 fn check_reading(alloc: Global, query: &[u8], request: Request) -> Result<(), Failure>
     requires { IsClosed request query.now }
     ensures steady { OnOk result (IsSteadyIfWanted request query.now) }
@@ -131,10 +131,9 @@ fn check_named(query: &SurveyedQuery<'_>, request: Request) -> Result<(), Failur
     }
 }
 
-// Where the query's last token begins, if it is open: a string, a quoted identifier or a block
-// comment without its end. No place is open, so only what follows a known place is looked at: the
-// last place that isn't at the query's end. The bytes of the last token tell, so no memory is
-// needed.
+// The index at which the query's last token begins, if it is open: a string, a quoted identifier or
+// a block comment without its end. No place is open, so only the text after the last known place
+// that isn't at the query's end is read. The last token's bytes decide, so no memory is needed.
 pub(crate) fn open_end(surveyed: &SurveyedQuery<'_>) -> Option<usize>
     ensures { OnTokens surveyed.now.reading.no_backslash_escape (surveyed.now.query.now ++ end)
         (λ ts. result ≡ long_end ts) }

@@ -7,12 +7,13 @@ use mysql_portable::portable::Unportable;
 use mysql_steady_text::SteadyTextError;
 use std::alloc::{AllocError, AllocFailed};
 
-/// Why [`write_bound`](crate::write_bound) did not write the whole text: the first cause, in this
-/// order. After `Write` a prefix of the text was written, after all others nothing.
+/// Why [`write_bound`](crate::write_bound) did not write the whole text: the first cause, in the
+/// order below. After `Write` a prefix of the text was written. After every other failure nothing
+/// was written.
 #[derive(Debug, PartialEq, Drop)]
 pub enum Failure {
-    /// The query ends within a string, a quoted identifier or a block comment: what follows the
-    /// query would stand in it.
+    /// The query ends within a string, a quoted identifier or a block comment. The text after the
+    /// query would be part of it.
     Open {
         /// The index of the first byte of that token.
         at: usize,
@@ -22,11 +23,12 @@ pub enum Failure {
         /// The index of the first one.
         at: usize,
     },
-    /// The query isn't portable on servers or in a client; the first construct is reported.
+    /// The query isn't portable on servers or in a client. The first construct that makes it so is
+    /// reported.
     Unportable(Unportable),
     /// The query has a mark, which has no name.
     Marks,
-    /// The bytes of an assignment aren't what its type takes.
+    /// The bytes of an assignment aren't valid for its type.
     NoValue,
     /// This name is assigned twice.
     Redefined(Vec<u8>),
@@ -38,8 +40,8 @@ pub enum Failure {
     Fragments(FragmentsError),
     /// The same with steady literals.
     SteadyFragments(SteadyFragmentsError),
-    /// The bound text isn't portable in a client, as a line of a name or of a string that begins
-    /// with `delimiter` makes it; the first construct is reported, at its index in the text.
+    /// The bound text isn't portable in a client. An example is a name or a string with a line that
+    /// begins with `delimiter`. The first construct is reported, at its index in the text.
     UnportableText(Unportable),
     /// A write failed, or took no byte.
     Write,

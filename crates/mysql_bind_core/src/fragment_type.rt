@@ -1,4 +1,4 @@
-//! What the bytes of a source put in the place of a name.
+//! The fragments that the bytes of a source make for the place of a name.
 ghost use Rattle.std.specs.Prelude.{◌≡◌, IfOk, Some, map, option_map};
 ghost use Rattle.json.specs.Json.{document};
 ghost use Rattle.json.specs.Value.{value_view};
@@ -14,8 +14,8 @@ use mysql_values::bytes::Bytes;
 use mysql_values::value::Value;
 use std::alloc::{AllocError, Global};
 
-/// What the bytes put in the place of a name, if they are what the type takes: a fragment, which
-/// can be written.
+/// The fragment that the bytes make for the place of a name, if they are valid for the type. Such a
+/// fragment can be written.
 pub fn typed_fragment(
     alloc: Global,
     value_type: ValueType,
@@ -82,7 +82,7 @@ fn name_of(alloc: Global, bytes: &[u8]) -> Result<Option<Fragment>, AllocError>
     }
 }
 
-// The list that a JSON text says.
+// The list of a JSON text.
 fn list_in(alloc: Global, bytes: &[u8]) -> Result<Option<Fragment>, AllocError>
     ensures { IfOk result (λ found. option_map said found ≡ list_in bytes.now) }
 {
@@ -92,12 +92,12 @@ fn list_in(alloc: Global, bytes: &[u8]) -> Result<Option<Fragment>, AllocError>
     }
 }
 
-// The list that a JSON text in UTF-8 says.
+// The list of a JSON text in UTF-8.
 fn list_of_text(alloc: Global, text: &str) -> Result<Option<Fragment>, AllocError>
     ensures { IfOk result (λ found. option_map said found ≡ list_of_json (document text.now)) }
 {
     let mut scratch = Scratch::new(alloc);
-    // A text that is no JSON says no list. The other errors are of memory.
+    // A text that isn't JSON has no list. All other errors are out of memory.
     match Json::parse(alloc, text, &mut scratch) {
         Ok(json) => list_of_json(alloc, &json),
         Err(JsonError::Invalid) => Ok(None),
@@ -164,15 +164,15 @@ fn double_item(text: &[u8]) -> Option<Item>
     }
 }
 
-// Whether an `e` stands in the text.
+// Whether the text has an `e` or an `E`.
 fn has_exponent(text: &[u8]) -> bool
     ensures { result ≡ has_exponent text.now }
 {
     text.iter().any(|byte| *byte == b'e' || *byte == b'E')
 }
 
-// The item of a number: with an exponent a double, else a whole one of 64 bits, or else an exact
-// one.
+// The item of a number. A number with an exponent is a double. Any other is a whole number, if 64
+// bits hold it, or else an exact number.
 fn number_item(alloc: Global, text: &[u8]) -> Result<Option<Item>, AllocError>
     ensures { IfOk result (λ found. option_map item_said found ≡ number_item text.now) }
 {

@@ -1,5 +1,5 @@
-//! The text of a query and of assignments of which one is an exact number, a double, a name or a
-//! list.
+//! The text of a query and its assignments, if one of these is an exact number, a double, a name or
+//! a list.
 ghost use Rattle.std.specs.Prelude.{◌≡◌, ◌≢◌, false, IfOk, IfErr};
 ghost use Rattle.mysql_named_params.specs.Reading.{OnWideTokens};
 ghost use Rattle.mysql_fragments.specs.GivenFragments.{given_fragments};
@@ -17,7 +17,7 @@ use mysql_fragments::{
 };
 use std::alloc::Global;
 
-// The text of fragments that assignments give.
+// The text of a query and the fragments of its assignments.
 pub(crate) fn fragments_text(
     alloc: Global,
     query: &[u8],
@@ -33,7 +33,7 @@ pub(crate) fn fragments_text(
     named_text(alloc, query, &Fragments::Named(entries), request)
 }
 
-// The text of a query and of fragments, with the literals that are asked for.
+// The text of a query and fragments, with the literals that are asked for.
 pub(crate) fn named_text(
     alloc: Global,
     query: &[u8],
@@ -82,7 +82,7 @@ fn plain_text(
     Ok(bind_wide_fragments_in(alloc, query, fragments, no_backslash_escape)?)
 }
 
-// The text with steady literals, of a portable query.
+// The text of a portable query, with steady literals.
 fn anywhere_text(alloc: Global, query: &[u8], fragments: &Fragments) -> Result<Vec<u8>, Failure>
     ensures bound { IfOk result (λ text. OnWideTokens false query.now (λ ts.
         IsFragmentsFor Literals.Steady Portability.Portable ts
@@ -94,7 +94,7 @@ fn anywhere_text(alloc: Global, query: &[u8], fragments: &Fragments) -> Result<V
     Ok(bind_wide_fragments_anywhere(alloc, query, fragments)?)
 }
 
-// The text with steady literals, of any query.
+// The text of any query, with steady literals.
 fn any_mode_text(alloc: Global, query: &[u8], fragments: &Fragments) -> Result<Vec<u8>, Failure>
     ensures bound { IfOk result (λ text. OnWideTokens false query.now (λ ts.
         IsFragmentsFor Literals.Steady Portability.Any ts

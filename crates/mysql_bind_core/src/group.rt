@@ -21,18 +21,18 @@ pub(crate) struct Group<'t> {
     pub last: bool,
 }
 
-// What came of a number of records.
+// The result of a try with a number of records.
 #[derive(Drop)]
 pub(crate) enum Tried<'t> {
     // They have a statement.
     Fits(Group<'t>),
-    // So many have none, or one that is too long.
+    // This many records have no statement, or one that is too long.
     Unfit(usize),
 }
 
-// The group at the front of the rest of a text, which takes no further record. It is tried with
-// `start` records at first. With each try that fits it is tried with more, 1, 2, 4 and so on, and
-// with each that doesn't fit with half as many more.
+// The group at the front of the rest of a text, which takes no further record. The first try has
+// `start` records. After a try that fits, the next one adds more records: 1, 2, 4 and so on. After
+// a try that doesn't fit, the next one adds half as many.
 pub(crate) fn full_group<'t>(
     alloc: Global,
     query: &TakenQuery<'_>,
@@ -74,8 +74,8 @@ pub(crate) fn full_group<'t>(
     Ok(group)
 }
 
-// A group that has a statement, and the number of records up to which one may: it is tried with
-// `start` of them, and with half as many until it fits.
+// A group that has a statement, and the largest number of records that a group may have. The first
+// try has `start` records, and each further try half as many, until one fits.
 fn first_fit<'t>(
     alloc: Global,
     query: &TakenQuery<'_>,
@@ -108,8 +108,8 @@ fn first_fit<'t>(
     }
 }
 
-// What comes of the records at the front of the rest of a text, at most so many. One that is unfit
-// alone is refused.
+// Tries the records at the front of the rest of a text, at most `most`. A single record that is
+// unfit is refused.
 fn try_rows<'t>(
     alloc: Global,
     query: &TakenQuery<'_>,

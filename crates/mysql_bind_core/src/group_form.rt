@@ -1,4 +1,4 @@
-//! How the records of a table share statements, and why one has none.
+//! The form of statements that the records of a table share, and the refusals of a record.
 use crate::assignment::Assignment;
 use crate::failure::Failure;
 use crate::table_form::TableForm;
@@ -11,36 +11,36 @@ pub const ROW_NAME: &[u8] = b"row";
 /// How the records of a table become statements of several rows.
 #[derive(Debug, Clone, Copy)]
 pub struct GroupForm<'a> {
-    /// How a record becomes a row: its items are those of the cells that the record has by this
-    /// form.
+    /// How a record becomes a row. The row has an item for each cell of the record.
     pub table: TableForm<'a>,
-    /// What the other names of the query are assigned, in each statement.
+    /// The assignments of the query's other names. They are the same in each statement.
     pub fixed: &'a [Assignment],
-    /// How many rows a statement has at most.
+    /// The largest number of rows of a statement.
     pub rows: usize,
-    /// How many bytes a statement has at most, with the line of its `;`.
+    /// The largest number of bytes of a statement, with the line of its `;`.
     pub bytes: usize,
-    /// With how many rows the first statement is tried at first, from 1 to `rows`. It changes no
-    /// statement, and saves tries: each further statement begins with the number of the one before.
+    /// The number of rows of the first try for the first statement, from 1 to `rows`. It changes no
+    /// statement, but a good guess saves tries. Each further statement begins with the number of
+    /// rows of the one before.
     pub start: usize,
-    /// How many statements are appended at most.
+    /// The largest number of statements that are appended.
     pub statements: usize,
 }
 
-/// The end of what was appended.
+/// Where the appended statements end.
 #[derive(Debug, Clone, Copy)]
 pub struct AppendedGroups<'t> {
-    /// The text behind the records that have statements: it is empty if all have one.
+    /// The text behind the records that have statements. It is empty if all records have one.
     pub rest: &'t [u8],
-    /// How many rows the last statement has, as `start` of what is appended next; without one the
-    /// number that `start` had.
+    /// The number of rows of the last statement: a good `start` for the next call. If no statement
+    /// was appended, it is `start`.
     pub rows: usize,
 }
 
-/// Why the first record without a statement has none. Those before it have one.
+/// Why the first record without a statement has none. The records before it have one.
 #[derive(Debug, PartialEq, Drop)]
 pub enum GroupRefusal {
-    /// The text isn't records: its first fault.
+    /// The text isn't a table. The field is its first fault.
     Record(Fault),
     /// The record has another number of fields than there are columns.
     Length {
@@ -49,21 +49,21 @@ pub enum GroupRefusal {
         /// How many fields it has.
         fields: usize,
     },
-    /// A statement of the record's row alone is refused, or a field says no item.
+    /// A field says no item, or a statement with only the record's row is refused.
     Row {
         /// The index at which the record begins.
         at: usize,
-        /// Why there is none. It is never `Write` or out of memory.
+        /// The cause. It is never `Write` or out of memory.
         failure: Failure,
     },
-    /// A statement of the record's row alone is longer than statements may be.
+    /// A statement with only the record's row is longer than statements may be.
     Long {
         /// The index at which the record begins.
         at: usize,
-        /// How many bytes the statement has, with the line of its `;`.
+        /// The number of bytes of the statement, with the line of its `;`.
         bytes: usize,
     },
-    /// Out of memory. It may come in place of any other.
+    /// Out of memory. It can come in place of any other refusal.
     Memory(AllocError),
 }
 

@@ -9,14 +9,16 @@ use crate::record_rows::Unread;
 use crate::taken::TakenQuery;
 use std::alloc::Global;
 
-/// Appends the statements of a table's records to a script, in the order of the records: each has
-/// the rows of as many records as may share one, in the place of [`ROW_NAME`](crate::ROW_NAME), and
-/// never a part of a row. So a statement has as many rows as it may, or ends with the text or
-/// before a record without a row, or with one more row it would be longer than it may be, or
-/// refused.
+/// Appends the statements of a table's records to a script, in the order of the records. A
+/// statement has the rows of one or more records in the place of [`ROW_NAME`](crate::ROW_NAME), and
+/// never a part of a row. It takes the next record too, with four exceptions:
+/// - it has `rows` rows;
+/// - the text ends, or the next record has no row;
+/// - with the next row it would be longer than `bytes`;
+/// - with the next row it would be refused.
 ///
-/// The first record that is refused leaves the statements of those before it. A refusal's indices
-/// are in `text`.
+/// If a record is refused, the script has the statements of the records before it. The indices of a
+/// refusal are in `text`.
 pub fn append_groups<'t>(
     alloc: Global,
     query: &TakenQuery<'_>,

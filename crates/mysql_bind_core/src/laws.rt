@@ -1,4 +1,4 @@
-//! Laws of what is written. They do nothing: each is called for what it ensures.
+//! Laws of the written text. They do nothing: each is called for its `ensures` clauses.
 ghost use Rattle.std.specs.Prelude.{◌≡◌, ◌<◌, ◌^◌, ℕ, Bool, false, List, All, length};
 ghost use Rattle.mysql_named_params.specs.LoweredNames.{have_capitals, lower_names};
 ghost use Rattle.mysql_named_params.specs.Places.{names};
@@ -33,10 +33,12 @@ pub use scripts::{
 };
 use std::alloc::Global;
 
-/// Unless all queries are taken, a client that keeps comments cuts what is written into as many
-/// statements as the query has, whatever the assignments say (`count`). If it decides about a quiet
-/// comment only by the comment, the text has the tokens that it reads in the query with its names
-/// in lower case. What stands in each place takes the name's, statement by statement (`tokens`).
+/// Unless all queries are taken, the written text has as many statements as the query, cut by a
+/// client that keeps comments. The assignments don't change that number (`count`).
+///
+/// Suppose that the client also decides about a quiet comment only by the comment. Then it reads
+/// the text as the tokens of the query with its names in lower case, except in the places. In each
+/// place the tokens of the text replace those of the name, statement by statement (`tokens`).
 pub fn written_in_clients()
     ensures count { (client : Client) (request : Request) (query text : List ℕ)
         (assignments : List Assignment) (vs : List Token) → IsHonest client.reader →
@@ -62,15 +64,15 @@ pub fn written_in_clients()
     steady_fragments_in_clients();
 }
 
-/// Names without capitals stay in lower case: such a query has the tokens that it has by the names
-/// of the grammar.
+/// If no name has a capital, writing the names in lower case changes nothing. Such a query has the
+/// tokens that it has by the names of the grammar.
 pub fn lower_names_stay()
     ensures { (ts : List Token) → have_capitals (names ts) ≡ false → lower_names ts ≡ ts }
 {}
 
-/// For all names and cells whose bytes fit into memory, as those of slices do, there are
-/// assignments that say what the cells do under the names. So what is promised of a row for all of
-/// these is promised for some.
+/// For all names and cells there are assignments that say the same as the cells under the names.
+/// The bytes of each have to fit into memory, which those of slices do. So a promise about a row
+/// for all such assignments is a promise for at least one.
 pub fn cells_are_assigned(alloc: Global)
     ensures { (columns : List (List ℕ)) (cells : List Cell) →
         All (λ name. length name < 2 ^ 63) columns →
@@ -80,8 +82,8 @@ pub fn cells_are_assigned(alloc: Global)
     let _alloc = alloc;
 }
 
-// Values in steady literals or with backslash escapes have no newline and no byte 0 in the text, so
-// that a client sends it as it is.
+// Steady literals and literals with backslash escapes have no newline and no byte 0. So a client
+// sends a text with such literals as it is.
 pub(crate) fn values_are_sent()
     ensures { (request : Request) (query text : List ℕ) (assignments : List Assignment) →
         has_fragment assignments ≡ false → mode_of request.literals ≡ false →

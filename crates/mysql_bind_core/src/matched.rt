@@ -1,5 +1,5 @@
 //! A query whose places are matched with the columns of a table, once for all rows. Each row is
-//! bound from its cells where they lie.
+//! bound from its cells, which borrow their bytes.
 ghost use Rattle.std.specs.Prelude.{◌≡◌, ◌++◌, ◌<◌, ℕ, false, true, List, length, map, Some, IfOk, IfErr, IfSome, IsTrue, IsFalse, OnErr, OnOk};
 ghost use Rattle.std.specs.List.{slice_get};
 ghost use Rattle.mysql_values.specs.BorrowedValue.{owned_values};
@@ -31,8 +31,8 @@ use std::marker::Model;
 pub struct MatchedQuery<'q, 'c> {
     taken: TakenQuery<'q>,
     columns: &'q [&'c [u8]],
-    // None if each row is bound as its assignments are: of a query without names, and of columns of
-    // which two have one name or that leave out a name.
+    // None if each row is bound by its assignments: the query has no names, two columns have the
+    // same name, or a name of the query has no column.
     numbers: Option<Vec<usize>>,
 }
 
@@ -54,8 +54,8 @@ impl<'q, 'c> Model for MatchedQuery<'q, 'c> {
 }
 
 impl<'q, 'c> MatchedQuery<'q, 'c> {
-    /// Matches the places of a query with columns of these names, or tells why the request doesn't
-    /// take the query.
+    /// Matches the places of a query with columns of these names, or returns why the request
+    /// doesn't take the query.
     pub fn with_columns(
         alloc: Global,
         query: &'q [u8],
@@ -79,14 +79,14 @@ impl<'q, 'c> MatchedQuery<'q, 'c> {
         })
     }
 
-    /// Writes the text of a row to the end of a script, as
-    /// [`taken_text`](crate::taken_text) gives it for what the cells assign to the names of their
-    /// columns. If it refuses, the script stays as it is. The values of cells are written from
-    /// where they lie, except those of bytes that are decoded, if each cell has a value.
+    /// Writes the text of a row to the end of a script: the text that [`TakenQuery::text`] gives if
+    /// the cells are assigned to the names of their columns. If it refuses, the script stays as it
+    /// is. If each cell has a value, values are written from the cells' own bytes, except those of
+    /// bytes that are decoded.
     ///
     /// If there are more cells than columns, those at the end assign nothing. If there are fewer,
-    /// the columns at the end have no value, and a query with such a name is refused. There are
-    /// assignments that say what cells do (law
+    /// the columns at the end have no value, and a query with such a name is refused. There always
+    /// are assignments that say the same as the cells (law
     /// [`cells_are_assigned`](crate::laws::cells_are_assigned)).
     pub fn append_row(
         &self,
@@ -122,8 +122,8 @@ impl<'q, 'c> MatchedQuery<'q, 'c> {
             .append_text(alloc, assignments.as_slice(), script)
     }
 
-    // Writes the text, if each cell has a value and each place a column. It leaves a text that
-    // can't be written, and one that a client would change.
+    // Writes the text, if each cell has a value and each place a column. It writes nothing if the
+    // text is refused, or if a client would change it.
     fn append_values(
         &self,
         alloc: Global,
@@ -154,7 +154,7 @@ impl<'q, 'c> MatchedQuery<'q, 'c> {
         Ok(Attempt::Left)
     }
 
-    // The same, whether or not the text is portable. What is written has no fragment.
+    // The same, whether or not the text is portable. It writes only values, no fragments.
     fn append_cells(
         &self,
         alloc: Global,
@@ -189,8 +189,8 @@ impl<'q, 'c> MatchedQuery<'q, 'c> {
     }
 }
 
-/// What the cells of a row assign to the names of their columns. A name or a cell that the other
-/// list has no partner for is left out.
+/// The assignments of the cells of a row to the names of their columns. A name without a cell and a
+/// cell without a name are left out.
 pub fn assignments_of(
     alloc: Global,
     columns: &[&[u8]],
@@ -235,8 +235,8 @@ fn placed_values<'v>(
     Ok(Some(placed))
 }
 
-// For each place of the query the number of the column with its name, if the query has names, each
-// has a column, and no two columns have one name.
+// The number of the column for each place of the query, by the name of the place. None if the query
+// has no names, a name has no column, or two columns have the same name.
 fn column_numbers(
     alloc: Global,
     query: &WideQuery<'_>,
@@ -259,7 +259,7 @@ fn column_numbers(
     numbers_of(alloc, columns, names.as_slice())
 }
 
-// Whether no name stands twice.
+// Whether no name is in the list twice.
 fn are_distinct_names(alloc: Global, names: &[&[u8]]) -> Result<bool, AllocError>
     ensures { IfOk result (λ distinct. IsTrue distinct →
         are_distinct_names (referents names.now) ≡ true) }
@@ -294,7 +294,7 @@ fn numbers_of(
     Ok(Some(numbers))
 }
 
-// Columns by name. What is found in it is compared again, so nothing is said of it.
+// Columns by name. The name of a column that is found is compared again, so no clause is needed.
 fn numbers_by_name<'c>(
     alloc: Global,
     columns: &[&'c [u8]],

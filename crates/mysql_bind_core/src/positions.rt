@@ -1,4 +1,4 @@
-//! Where a byte of a text stands, as editors count.
+//! The place of a byte in a text, as editors count.
 ghost use Rattle.std.specs.Prelude.{◌≡◌, ◌+◌, ◌≤◌, length, take};
 ghost use Rattle.mysql_bind_core.specs.Places.{line_after, column_after};
 

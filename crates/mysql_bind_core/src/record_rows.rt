@@ -22,7 +22,7 @@ pub(crate) struct Unread<'t> {
     pub rest: &'t [u8],
 }
 
-// What follows in a text.
+// The next row of a text.
 #[derive(Drop)]
 pub(crate) enum NextRow<'t> {
     // Nothing.
@@ -42,8 +42,8 @@ pub(crate) struct ReadRows<'t> {
     pub last: bool,
 }
 
-// The rows of the records at the front of the rest of a text, at most so many: as many as come
-// before a record without a row. The first record has one, or is refused.
+// The rows of the records at the front of the rest of a text, at most `most`. They end before a
+// record without a row. If the first record has no row, it is refused.
 pub(crate) fn read_rows<'t>(
     alloc: Global,
     form: &TableForm<'_>,
@@ -103,8 +103,7 @@ fn is_last<'t>(
     }
 }
 
-// What follows in the rest of a text. The fields of a record take the place of those that the
-// vector has.
+// The next row in the rest of a text. The fields of its record replace those of the vector.
 fn next_row<'t>(
     alloc: Global,
     form: &TableForm<'_>,
@@ -128,8 +127,8 @@ fn next_row<'t>(
     }
 }
 
-// The row of the record at the front of the rest of a text, which has these fields, and behind
-// which the text goes on so.
+// The row of the record at the front of the rest of a text. The record has these fields, and `more`
+// is the text behind it.
 fn row_of_record<'t>(
     alloc: Global,
     form: &TableForm<'_>,

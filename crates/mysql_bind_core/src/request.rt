@@ -1,14 +1,14 @@
-//! What is asked of the program, apart from the query and the values.
+//! The options of a call, apart from the query and the values.
 ghost use Rattle.std.specs.Prelude.{◌≡◌};
 ghost use Rattle.mysql_bind_core.specs.Requests.{mode_of};
 
 /// How the literals of values are written.
 #[derive(Debug, Clone, Copy, PartialEq, Eq)]
 pub enum Literals {
-    /// So that no mode and no character set of a connection reads the text otherwise
+    /// So that the text reads the same in every mode and character set of a connection
     /// ([`bind_wide_anywhere`](mysql_steady_text::bind_wide_anywhere)).
     Steady,
-    /// For a mode of the server ([`bind_wide_in`](mysql_binding::bind_wide_in)).
+    /// For one mode of the server ([`bind_wide_in`](mysql_binding::bind_wide_in)).
     Plain {
         /// Whether the connection's `sql_mode` has `NO_BACKSLASH_ESCAPES`.
         no_backslash_escape: bool,
@@ -16,8 +16,8 @@ pub enum Literals {
 }
 
 impl Literals {
-    /// The mode in which the query is read. A query that is taken for steady literals reads the
-    /// same in both modes; it is read in that of backslashes.
+    /// Whether the query is read in the mode `NO_BACKSLASH_ESCAPES`. With steady literals it is
+    /// read with backslash escapes. A query that is taken for them reads the same in both modes.
     pub fn no_backslash_escape(self) -> bool
         ensures { result ≡ mode_of self }
     {
@@ -35,11 +35,11 @@ impl Literals {
 pub enum Portability {
     /// Those that all servers and the clients `mysql` and `mariadb` read alike.
     Portable,
-    /// All.
+    /// All queries.
     Any,
 }
 
-/// What is asked of the program, apart from the query and the values.
+/// The options of a call, apart from the query and the values.
 #[derive(Debug, Clone, Copy, PartialEq, Eq)]
 pub struct Request {
     /// How the literals of values are written.

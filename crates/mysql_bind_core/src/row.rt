@@ -4,19 +4,19 @@ use crate::failure::Failure;
 use mysql_io::readers_and_writers::WriteError;
 use std::alloc::AllocError;
 
-/// What the names of a query are assigned in one statement.
+/// The assignments to the names of a query for one statement.
 #[derive(Debug, Drop)]
 pub struct Row {
-    /// As [`bound_text`](crate::bound_text) takes them.
+    /// The assignments, in the form that [`bound_text`](crate::bound_text) takes.
     pub assignments: Vec<Assignment>,
 }
 
-/// A row without a statement. Those before it have one.
+/// A row without a statement. The rows before it have one.
 #[derive(Debug, PartialEq, Drop)]
 pub struct RefusedRow {
     /// The index of the row.
     pub number: usize,
-    /// Why it has none. It is never `Write`.
+    /// Why the row has no statement. It is never `Write`.
     pub failure: Failure,
 }
 
@@ -25,7 +25,7 @@ pub struct RefusedRow {
 pub enum RowsFailure {
     /// The request doesn't take the query.
     Query(Failure),
-    /// This row is refused, the first one that is.
+    /// The first row that is refused.
     Row(RefusedRow),
     /// A write failed, or took no byte. A prefix was written.
     Write,

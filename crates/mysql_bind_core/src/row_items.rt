@@ -35,7 +35,7 @@ fn cell_item(alloc: Global, cell: &Cell<'_>) -> Result<Option<Item>, AllocError>
     }
 }
 
-// What stands in a place, as an item of a row, if it is one.
+// A fragment as an item of a row, if it is one.
 fn as_item(fragment: Fragment) -> Option<Item>
     ensures { option_map item_said result ≡ as_item (said fragment) }
 {

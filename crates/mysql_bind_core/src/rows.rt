@@ -14,9 +14,9 @@ use crate::row::{RefusedRow, Row};
 use crate::taken::TakenQuery;
 use std::alloc::{AllocError, Global};
 
-/// Appends the statement of each row to a script: the bound text, and a line with `;`. A row that
-/// is refused leaves the statements of those before it. The names of the query are listed once for
-/// all rows.
+/// Appends the statement of each row to a script: the bound text, and a line with `;`. If a row is
+/// refused, the script keeps the statements of the rows before it. The names of the query are
+/// listed once for all rows.
 pub fn append_rows(
     alloc: Global,
     query: &TakenQuery<'_>,

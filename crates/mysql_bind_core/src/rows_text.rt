@@ -12,8 +12,8 @@ use crate::taken::{TakenQuery, found_in_text};
 use mysql_fragments::{Fragment, Fragments, FragmentsError, Item, SteadyFragmentsError};
 use std::alloc::Global;
 
-// The statement of a query in which the name `row` stands for rows, and the other names for what
-// they are assigned: the text, and the line that ends it.
+// The statement of a query: its text, and the line that ends it. The name `row` stands for rows,
+// and the other names have their assigned values.
 pub(crate) fn rows_statement(
     alloc: Global,
     query: &TakenQuery<'_>,

@@ -31,9 +31,9 @@ fn append_if(script: &mut Vec<u8>, wanted: bool, bytes: &[u8]) -> Result<(), All
     }
 }
 
-/// The script of the rows, or the refusal, which is never `Write`: for each row its bound text and
-/// a line with `;`, in their order, between `START TRANSACTION` and `COMMIT` if a transaction is
-/// asked for.
+/// The script of the rows, or the refusal, which is never `Write`. The script has, for each row in
+/// order, its bound text and a line with `;`. If a transaction is asked for, `START TRANSACTION`
+/// and `COMMIT` are around them.
 pub fn script_of(
     alloc: Global,
     query: &[u8],
@@ -70,8 +70,8 @@ fn taken_script(
 
 /// Writes the script of the rows, as [`script_of`] gives it, or refuses.
 ///
-/// All rows are bound before the first byte is written. With any refusal but `Write` nothing was
-/// written.
+/// All rows are bound before the first byte is written. Every refusal except `Write` means that
+/// nothing was written.
 pub fn write_rows<W: Write>(
     alloc: Global,
     query: &[u8],
@@ -89,7 +89,7 @@ pub fn write_rows<W: Write>(
     // A refusal has written nothing.
     ensures unwritten { IfErr result (λ e. e ≢ RowsFailure.Write → output.new ≡ output.old) }
 
-    // A failed write has written a prefix of what would have been written.
+    // A failed write has written a prefix of the script.
     ensures begun { IsErrOf result RowsFailure.Write → (script : List ℕ)
         × IsScript request query.now rows.now transaction script
         × AppendsPrefix (W.contents output.old) (W.contents output.new) script }
@@ -108,9 +108,10 @@ fn written<W: Write>(output: &mut W, script: &[u8]) -> Result<(), RowsFailure>
     Ok(write_whole(output, script)?)
 }
 
-/// Writes the statement of each row, without a transaction's. A row that is refused leaves exactly
-/// the statements of those before it: of rows that are read piece by piece, each piece can be
-/// written before the next one is read. Out of memory is told as the refusal of a row.
+/// Writes the statement of each row, without a transaction. If a row is refused, exactly the
+/// statements of the rows before it were written. So if rows are read piece by piece, each piece
+/// can be written before the next one is read. Out of memory is reported as the refusal of the
+/// query or of a row.
 pub fn stream_rows<W: Write>(
     alloc: Global,
     query: &[u8],
@@ -124,13 +125,13 @@ pub fn stream_rows<W: Write>(
     ensures refused { IfErr result (λ e. e ≢ RowsFailure.Write →
         IsRowsRefusal request query.now rows.now e) }
 
-    // A refused query has written nothing, a refused row the statements of those before it.
+    // If the query is refused, nothing was written. If a row is, the statements before it were.
     ensures unwritten { IfErr result (λ e. IfQuery e (output.new ≡ output.old)) }
     ensures before { IfErr result (λ e. IfRow e (λ number. (statements : List ℕ)
         × AreStatements request query.now (take number rows.now) [] statements
         × Appends (W.contents output.old) (W.contents output.new) statements)) }
 
-    // Out of memory is told of the query or of a row, so the clauses above say what is written.
+    // Out of memory is reported for the query or a row, so the clauses above cover it.
     ensures memory { IfErr result (λ e. IfMemory e ⊥) }
 
     // A failed write has written a prefix of the statements of all rows, or of those before one.
@@ -173,7 +174,7 @@ fn stream_taken<W: Write>(
 {
     let mut statements = Vec::new(alloc);
     let appended = append_rows(alloc, query, rows, &mut statements);
-    // Also before a row that is refused, statements are written.
+    // The statements before a refused row are written too.
     written(output, &statements)?;
     Ok(appended?)
 }

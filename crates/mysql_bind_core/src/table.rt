@@ -1,4 +1,4 @@
-//! The statement of one row of a table, from its cells where they lie.
+//! The statement of one row of a table, from its cells, which borrow their bytes.
 ghost use Rattle.std.specs.Prelude.{◌≡◌, ◌++◌, ℕ, List, IfErr, OnErr, OnOk};
 ghost use Rattle.mysql_bind_core.specs.RowTexts.{IsRowRefusal, IsRowText};
 ghost use Rattle.mysql_bind_core.specs.Scripts.{statement};
@@ -8,9 +8,9 @@ use crate::failure::Failure;
 use crate::matched::MatchedQuery;
 use std::alloc::Global;
 
-/// Appends the statement of a row of a table to a script: the bound text, and a line with `;`, as
-/// [`append_rows`](crate::append_rows) appends it for what the cells assign to the names of their
-/// columns. If it refuses, the script stays as it is.
+/// Appends the statement of a row of a table to a script: the bound text, and a line with `;`.
+/// [`append_rows`](crate::append_rows) appends the same if the cells are assigned to the names of
+/// their columns. If it refuses, the script stays as it is.
 pub fn append_record(
     alloc: Global,
     query: &MatchedQuery<'_, '_>,

@@ -8,9 +8,9 @@ use std::alloc::AllocError;
 /// A column of a table.
 #[derive(Debug, Clone, Copy)]
 pub struct TableColumn<'a> {
-    /// How the bytes of its fields are taken.
+    /// How the bytes of its fields are interpreted.
     pub value_type: ValueType,
-    /// The bytes of a field of it that is NULL, if some mean that.
+    /// The bytes of a field that mean NULL, if any do.
     pub null_text: Option<&'a [u8]>,
     /// Whether its fields become cells.
     pub used: bool,
@@ -21,18 +21,18 @@ pub struct TableColumn<'a> {
 pub struct TableForm<'a> {
     /// The format of the records.
     pub format: RecordFormat,
-    /// The columns: a record has as many fields.
+    /// The columns. A record has one field for each.
     pub columns: &'a [TableColumn<'a>],
-    /// The cells that are the same in each row, behind those of its record.
+    /// The cells that are the same in each row. They follow the cells of its record.
     pub fixed: &'a [Cell<'a>],
 }
 
-/// Why the first record without a statement has none. Those before it have one.
+/// Why the first record without a statement has none. The records before it have one.
 #[derive(Debug, PartialEq, Drop)]
 pub enum TableRefusal {
-    /// The text isn't records: its first fault.
+    /// The text doesn't consist of records. Its first fault is reported.
     Record(Fault),
-    /// The record has another number of fields than there are columns.
+    /// The number of the record's fields isn't the number of columns.
     Length {
         /// The index at which the record begins.
         at: usize,
@@ -46,7 +46,7 @@ pub enum TableRefusal {
         /// Why it has no statement. It is never `Write`.
         failure: Failure,
     },
-    /// Out of memory as a record was read. It may come in place of any other. While a row is bound,
-    /// `Row` tells it.
+    /// Out of memory while a record was read. It may come in place of any other refusal. If memory
+    /// is refused while a row is bound, that is reported as `Row`.
     Memory(AllocError),
 }

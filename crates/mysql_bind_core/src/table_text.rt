@@ -15,12 +15,13 @@ use crate::value_type::ValueType;
 use mysql_records::{Fault, LentField, RecordError, first_record_into};
 use std::alloc::{AllocError, Global};
 
-/// Appends the statements of a table's records to a script, in the order of the records and at most
-/// so many, and gives the text behind them: it is empty if all records have one. The statement of a
-/// record is what [`append_record`] appends for its cells.
+/// Appends the statements of a table's records to a script, in the order of the records and for at
+/// most `most` of them. It returns the text behind these records, which is empty if all records
+/// have a statement. The statement of a record is the one that [`append_record`] appends for its
+/// cells.
 ///
-/// The first record that is refused leaves the statements of those before it. A refusal's indices
-/// are in `text`.
+/// If a record is refused, the script keeps the statements of the records before it. A refusal's
+/// indices are in `text`.
 pub fn append_table<'t>(
     alloc: Global,
     query: &MatchedQuery<'_, '_>,
@@ -55,8 +56,8 @@ pub fn append_table<'t>(
     Ok(rest)
 }
 
-// The fields of the record at the front of the rest of a text, in place of those that the vector
-// has, and the text behind it; none if the rest is empty.
+// Reads the record at the front of the rest of a text. Its fields replace those of the vector. It
+// returns the text behind the record, or none if the rest is empty.
 fn read_record<'t>(
     alloc: Global,
     form: &TableForm<'_>,
@@ -104,9 +105,9 @@ fn append_fields(
     append_record(alloc, query, cells.as_slice(), script)
 }
 
-/// The cells of a record with these fields, which lie where the fields do: of each column that is
-/// used, and behind those the ones that each row has. A field or a column that the other list has
-/// no partner for is left out.
+/// The cells of a record with these fields, whose bytes the cells borrow. They are one cell for
+/// each column that is used, and then the cells that are the same in each row. A field without a
+/// column and a column without a field are left out.
 pub fn record_cells<'f>(
     alloc: Global,
     form: &TableForm<'f>,
@@ -139,7 +140,7 @@ fn push_cell<'f>(
     Ok(())
 }
 
-// What a field is for its column.
+// The cell of a field in its column.
 fn cell_of<'f>(column: TableColumn<'_>, field: &'f LentField<'_>) -> Cell<'f>
     ensures { cell_said result ≡ field_said column.entry (lent_seen field.now) }
 {

@@ -1,6 +1,6 @@
-//! Queries that a request takes. What is found out of a query before values are looked at is found
-//! out once, and handed on. The text of such a query has its assignments, in the literals that are
-//! asked for, and is written or refused whole.
+//! Queries that a request takes. Everything that doesn't depend on values is found in a query once,
+//! and reused. The text of such a query has its assignments, in the literals that are asked for. It
+//! is written or refused as a whole.
 ghost use Rattle.std.specs.Prelude.{◌≡◌, ◌≢◌, ◌⊎◌, IfErr, IfOk, IsErrOf, OnOk, alloc_error, ℕ, List, Some, None, Ok, map, IfSome};
 ghost use Rattle.std.specs.Io.KnownBytes.{Appends};
 ghost use Rattle.mysql_io.specs.ReadersAndWriters.{AppendsPrefix};
@@ -32,8 +32,8 @@ use std::alloc::{AllocError, Global};
 use std::io::Write;
 use std::marker::Model;
 
-/// A query that a request takes, with its places. It is bound any number of times; to values it is
-/// bound without a further walk.
+/// A query that a request takes, with its places. It can be bound any number of times. Values are
+/// bound without a further walk over it.
 #[derive(Debug, Drop)]
 pub struct TakenQuery<'q> {
     parsed: WideQuery<'q>,
@@ -54,9 +54,9 @@ impl<'q> Model for TakenQuery<'q> {
 }
 
 impl<'q> TakenQuery<'q> {
-    /// The query, if the request takes it: else `Open`, `Unsteady`, `Unportable` or `Marks`, as
-    /// [`check_query`] has it. `Memory` comes only if the request takes the query, or if a name has
-    /// a capital, in place of `Unportable` and `Marks`.
+    /// The query, if the request takes it. Otherwise the error is `Open`, `Unsteady`, `Unportable`
+    /// or `Marks`, like that of [`check_query`]. It is `Memory` only if the request takes the
+    /// query, or, if a name has a capital, in place of `Unportable` and `Marks`.
     pub fn new(alloc: Global, query: &'q [u8], request: Request) -> Result<TakenQuery<'q>, Failure>
         ensures query { IfOk result (λ t. t ≡ record { query = query.now; request = request }) }
         ensures taken { IfOk result (λ t. IsTaken request query.now) }
@@ -77,7 +77,7 @@ impl<'q> TakenQuery<'q> {
         Ok(TakenQuery { parsed, request })
     }
 
-    /// What is asked of the query.
+    /// The request that takes the query.
     pub fn request(&self) -> Request
         ensures request { result ≡ self.now.request }
         ensures taken { IsTaken self.now.request self.now.query }
@@ -94,8 +94,8 @@ impl<'q> TakenQuery<'q> {
     }
 
     /// The query with the literals of the assigned values in the places of its names, or the
-    /// refusal, as [`bound_text`](crate::bound_text) gives it. For values the query isn't walked
-    /// again.
+    /// refusal, like [`bound_text`](crate::bound_text). Values are bound without a further walk
+    /// over the query.
     pub fn text(&self, alloc: Global, assignments: &[Assignment]) -> Result<Vec<u8>, Failure>
         ensures bound { IfOk result (λ text.
             IsWritten self.now.request self.now.query assignments.now text.items) }
@@ -132,7 +132,7 @@ impl<'q> TakenQuery<'q> {
         // A refusal has written nothing.
         ensures unwritten { IfErr result (λ e. e ≢ Failure.Write → output.new ≡ output.old) }
 
-        // A failed write has written a prefix of what would have been written.
+        // A failed write has written a prefix of the text.
         ensures begun { IsErrOf result Failure.Write → (text : List ℕ)
             × IsWritten self.now.request self.now.query assignments.now text
             × AppendsPrefix (W.contents output.old) (W.contents output.new) text }
@@ -141,8 +141,9 @@ impl<'q> TakenQuery<'q> {
         written(output, &text)
     }
 
-    // The text, unless it has to be portable in a client and isn't: a name may have a newline, and
-    // a string without backslash escapes a newline or a byte 0. All texts with fragments are asked.
+    // The text, unless it has to be portable in a client and isn't. A name may have a newline. A
+    // string without backslash escapes may have a newline or a byte 0. All texts with fragments are
+    // checked.
     fn asked_text(&self, assignments: &[Assignment], text: Vec<u8>) -> Result<Vec<u8>, Failure>
         requires { IsAssignedText self.now.request self.now.query assignments.now text.items }
         ensures bound { IfOk result (λ text.
@@ -179,7 +180,8 @@ impl<'q> TakenQuery<'q> {
                 };
                 Ok(bind_surveyed_as(alloc, &surveyed, params, &form)?)
             }
-            // The error of each form is a `BindError`: this one is told as that of steady literals.
+            // Both forms have the error `BindError`. This one is reported as that of steady
+            // literals.
             Literals::Steady => match bind_surveyed_as(alloc, &surveyed, params, &SteadyForm) {
                 Ok(text) => Ok(text),
                 Err(error) => Err(Failure::Steady(SteadyTextError::Bind(error))),
@@ -188,9 +190,10 @@ impl<'q> TakenQuery<'q> {
     }
 }
 
-/// Whether the request takes the query, without any values: `Open`, `Unsteady`, `Unportable` or
-/// `Marks` if it doesn't. For a query with a capital in a name it may ask for memory, for a copy of
-/// the query; without it `Memory` stands in place of the latter two.
+/// Whether the request takes the query, without any values. If it doesn't, the error is `Open`,
+/// `Unsteady`, `Unportable` or `Marks`. For a query with a capital in a name it may ask for memory,
+/// for a copy of the query. If that is refused, the error is `Memory`. It never comes in place of
+/// `Open` or `Unsteady`.
 pub fn check_query(alloc: Global, query: &[u8], request: Request) -> Result<(), Failure>
     ensures taken { OnOk result (IsTaken request query.now) }
     ensures refused { IfErr result (IsQueryRefusal request query.now) }
@@ -247,7 +250,8 @@ fn borrowed_pairs<'p>(
     Ok(lent)
 }
 
-// What pairs give by name: nothing, if there are none. A name that is given twice is refused.
+// The parameters that pairs make, by name. They are empty if there are no pairs. A name that is
+// given twice is refused.
 fn params_of<'p>(
     alloc: Global,
     pairs: &'p NamedPairs<'p>,

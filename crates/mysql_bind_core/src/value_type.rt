@@ -1,4 +1,4 @@
-//! The values that the bytes of a source stand for: copies of the bytes, or where they lie.
+//! The values of a source's bytes. They own copies of the bytes, or borrow them.
 ghost use Rattle.std.specs.Prelude.{◌≡◌, true, IfOk, OnErr, option_map};
 ghost use Rattle.mysql_values.specs.BorrowedValue.{owned};
 ghost use Rattle.mysql_bind_core.specs.ValueTypes.{IsSomeBytes, line_of, has_newline, takes_memory, typed_value, hex_value, base64_value, truth_value, int_value, line_value, number_value, text_value, uint_value};
@@ -14,15 +14,15 @@ use mysql_values::value::convert::FromValueRef;
 use mysql_values::value::{Value, ValueRef};
 use std::alloc::{AllocError, Global};
 
-/// How the bytes of a source are taken.
+/// How the bytes of a source are interpreted.
 #[derive(Debug, Clone, Copy, PartialEq, Eq)]
 pub enum ValueType {
     /// `NULL`, whatever the bytes are.
     Null,
     /// As they are, if they are UTF-8.
     Text,
-    /// As they are, without one newline at their end and a carriage return before it, if they are
-    /// UTF-8 and no further newline is in them.
+    /// As they are, without one newline at their end and a carriage return before it. They have to
+    /// be UTF-8, without a further newline.
     Line,
     /// As they are.
     Bytes,
@@ -34,22 +34,23 @@ pub enum ValueType {
     Number,
     /// `true` or `false`: 1 or 0.
     Bool,
-    /// As the bytes that these hexadecimal digits spell, two for each.
+    /// As hexadecimal digits, two for each byte of the value.
     Hex,
-    /// As the bytes that they encode in base64 with padding (RFC 4648, section 4).
+    /// As base64 with padding (RFC 4648, section 4) of the value's bytes.
     Base64,
-    /// As an exact number, which is written as it is: at most one `-`, then at most 65 digits with
-    /// at most one point between them. It is no value.
+    /// As an exact number, which is written as it is: an optional `-`, then at most 65 digits with
+    /// at most one point between them. It makes a fragment, not a value.
     Decimal,
-    /// As the double nearest to a decimal number, at a tie the even one: at most one sign, digits
-    /// with at most one point, and at most an exponent after `e` or `E`. It has to be finite, and
-    /// is no value.
+    /// As the double nearest to a decimal number, at a tie the even one. The number has an optional
+    /// sign, digits with at most one point, and an optional exponent after `e` or `E`. The double
+    /// has to be finite. It makes a fragment, not a value.
     Double,
-    /// As the name of a table or a column, in UTF-8, which is written in backquotes. It is no
-    /// value.
+    /// As the name of a table or a column, in UTF-8, which is written in backquotes. It makes a
+    /// fragment, not a value.
     Identifier,
-    /// As a list: a JSON array of null, truth values, texts, whole numbers of 64 bits, exact
-    /// numbers, and doubles, which have an exponent. It is no value.
+    /// As a list: a JSON array, not empty, of null, truth values, texts, whole numbers of 64 bits,
+    /// exact numbers and doubles. A number with an exponent is a double. It makes a fragment, not a
+    /// value.
     List,
 }
 
@@ -64,7 +65,7 @@ pub(crate) fn is_value_type(value_type: ValueType) -> bool
 }
 
 /// The value of the bytes, if they have one of this type. An exact number, a double, a name and a
-/// list are no values: [`typed_fragment`](crate::typed_fragment) has them.
+/// list are fragments, which [`typed_fragment`](crate::typed_fragment) gives.
 pub fn typed_value(
     alloc: Global,
     value_type: ValueType,
@@ -141,7 +142,7 @@ fn truth_value(bytes: &[u8]) -> Option<Value>
 fn hex_value(alloc: Global, bytes: &[u8]) -> Result<Option<Value>, AllocError>
     ensures { IfOk result (λ value. value ≡ hex_value bytes.now) }
 {
-    // Bytes that aren't such digits have no value; only memory is an error.
+    // Bytes that aren't such digits have no value. The only error is out of memory.
     match hex::decode(alloc, bytes) {
         Ok(decoded) => Ok(Some(Value::Bytes(Bytes::from(decoded)))),
         Err(FromHexError::OutOfMemory) => Err(AllocError),
@@ -161,7 +162,7 @@ fn base64_value(alloc: Global, bytes: &[u8]) -> Result<Option<Value>, AllocError
     }
 }
 
-// The value of the bytes, if they have one of this type and none is decoded for it.
+// The value that borrows the bytes, if they have one of this type that isn't decoded.
 pub(crate) fn lent_value(value_type: ValueType, bytes: &[u8]) -> Option<ValueRef<'_>>
     ensures { option_map owned result ≡ lent_typed_value value_type bytes.now }
 {

@@ -1,4 +1,4 @@
-//! Laws of scripts. They do nothing: each is called for what it ensures.
+//! Laws of scripts. They do nothing: each is called for its `ensures` clauses.
 ghost use Rattle.std.specs.Prelude.{◌≡◌, ◌+◌, ◌++◌, ◌∷◌, ℕ, Bool, List, [], if◌then◌else◌, length};
 ghost use Rattle.mysql_named_params.specs.Tokens.{Token, IsTokens, OnTokens};
 ghost use Rattle.mysql_portable.specs.Portable.{AreReadAlike};
@@ -20,14 +20,16 @@ ghost use Rattle.mysql_bind_core.specs.declared.row.Row as row;
 ghost use Rattle.mysql_bind_core.specs.declared.table_form.TableForm as form;
 ghost use Rattle.mysql_records.specs.Records.{IsTable};
 
-/// The tokens of a script are those of its texts, in their order, each with a newline after it, and
-/// with `;` and a newline after that; with a transaction its two statements stand around them. So
-/// nothing of one statement stands in a token of another. It holds in either mode of a script with
-/// steady literals, and in theirs of one with literals of a mode. A comment to the end of the line
-/// at the end of a query takes the newline, and so never the `;`. Cut at each `;` that is a token,
-/// as clients cut it, the script has the statements of the texts, those of a transaction, and after
-/// its last `;` a newline alone (`count`). If every server reads each text alike with the newline
-/// after it, so it reads the script (`alike`).
+/// The tokens of a script are those of its texts, in their order. After each text come a newline,
+/// `;` and a newline. With a transaction, its two statements are around them (`script`). So no
+/// token of one statement reaches into another. A comment to the end of the line at the end of a
+/// query takes the newline, and so never the `;`.
+///
+/// With steady literals this holds in either mode, and with literals of a mode in that mode.
+///
+/// Clients cut a script at each `;` that is a token. The parts are the statements of the texts,
+/// those of a transaction, and a single newline after the last `;` (`count`). If every server reads
+/// each text with the newline after it alike, every server reads the script alike (`alike`).
 pub fn tokens_of_scripts()
     ensures script { (request : declared.Request) (query : List ℕ) (rows : List row.Row)
         (transaction mode : Bool) (bytes : List ℕ) → IsReadIn request.literals mode →
@@ -44,9 +46,9 @@ pub fn tokens_of_scripts()
         AreReadAlike (script_tokens transaction lists) }
 {}
 
-/// Unless all queries are taken, a client that keeps comments sends a script as it is: none of its
-/// own constructs stands in the script. If every server reads each text alike with the newline
-/// after it, the client reads the script as its server does (`alike` of [`tokens_of_scripts`]).
+/// Unless all queries are taken, a client that keeps comments sends a script as it is: the script
+/// has none of the client's own constructs. If every server reads each text with the newline after
+/// it alike, the client reads the script as its server does (`alike` of [`tokens_of_scripts`]).
 pub fn scripts_in_clients()
     ensures script { (request : declared.Request) (query : List ℕ) (rows : List row.Row)
         (transaction : Bool) (bytes : List ℕ) → request.portability ≡ portability.Portable →
@@ -58,9 +60,9 @@ pub fn scripts_in_clients()
         OnTokens (mode_of request.literals) bytes IsSentByClient }
 {}
 
-/// What [`append_record`](crate::append_record) appends for one record after another are the
-/// statements of rows that say what their cells do: before the first there are none (`none`), and
-/// each record has the statement of one row more (`more`).
+/// Record by record, [`append_record`](crate::append_record) appends the statements of rows that
+/// say the same as the cells of the records. Before the first record there are no statements
+/// (`none`). Each record adds the statement of one row (`more`).
 pub fn records_make_scripts()
     ensures none { (request : declared.Request) (query before : List ℕ) →
         AreStatements request query [] before before }
@@ -72,9 +74,9 @@ pub fn records_make_scripts()
         AreStatements query.request query.query (rows ++ row ∷ []) before after }
 {}
 
-/// What [`append_table`](crate::append_table) appends for the records of a table are the statements
-/// of all rows that say what the cells of these records do (`statements`). If it leaves no text,
-/// these records are the table (`table`), of which a text has one at most
+/// For the records of a table, [`append_table`](crate::append_table) appends the statements of rows
+/// that say the same as the cells of these records (`statements`). If it leaves no text, these
+/// records are the table (`table`). A text has at most one table
 /// ([`tables_are_unambiguous`](mysql_records::laws::tables_are_unambiguous)).
 pub fn tables_make_scripts()
     ensures statements { (query : TableQuery) (form : form.TableForm) (text : List ℕ)
@@ -88,12 +90,13 @@ pub fn tables_make_scripts()
         IsTable form.format records text }
 {}
 
-/// What [`append_groups`](crate::append_groups) appends for the records of a table. The records of
-/// the groups are those that the text begins with, in their order (`records`), and the table, if no
-/// text is left (`table`). Behind what begins a script, and before what ends it, the statements
-/// make a script whose tokens are those of their texts, as [`tokens_of_scripts`] has it of rows
-/// (`script`). Unless all queries are taken, a client that keeps comments sends it as it is
-/// (`sent`).
+/// The statements that [`append_groups`](crate::append_groups) appends for the records of a table.
+/// The text begins with the records of the groups, in their order (`records`). If no text is left,
+/// they are the table (`table`).
+///
+/// With the opening and the closing of a script around them, the statements make a script. Its
+/// tokens are those of their texts, like those of rows in [`tokens_of_scripts`] (`script`). Unless
+/// all queries are taken, a client that keeps comments sends the script as it is (`sent`).
 pub fn groups_make_scripts()
     ensures records { (query : RequestedQuery) (form : group.GroupForm) (text : List ℕ)
         (groups : List (List Fields)) (rest before after : List ℕ) →

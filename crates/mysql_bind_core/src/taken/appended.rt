@@ -1,6 +1,6 @@
-//! The texts of many rows for one query, each written to the end of a script. What depends on the
-//! query alone, as its places and names, is found once before, and a value is looked for among the
-//! few of its row, without a map.
+//! The texts of many rows for one query, each written to the end of a script. Places and names
+//! depend only on the query, so they are found once for all rows. A value is looked for among the
+//! few values of its row, without a map.
 ghost use Rattle.std.specs.Prelude.{◌≡◌, ◌++◌, ◌<◌, ℕ, false, true, List, length, map, option_map, IfOk, IfErr, IfSome, IsTrue, OnErr, OnOk};
 ghost use Rattle.mysql_values.specs.BorrowedValue.{owned_values};
 ghost use Rattle.mysql_named_params.specs.Reading.{OnWideTokens};
@@ -26,25 +26,24 @@ use mysql_steady_text::SteadyForm;
 use mysql_values::value::{Value, ValueRef};
 use std::alloc::{AllocError, Global};
 
-// A row of at most so many values is bound without a map of them, whose making was a fifth of the
-// instructions of `rows_out`. A walk over the values takes its place, for each name and each value.
-// How many values a map is worth wasn't measured.
+// A row of at most this many values is bound without a map of them. Making the map was a fifth of
+// the instructions of `rows_out`. Instead, there is a walk over the values for each name and each
+// value. The number of values from which a map pays wasn't measured.
 const FEW_VALUES: usize = 16;
 
-/// What the short way to a row's text came to.
+/// The result of the fast way to a row's text.
 #[derive(Debug, Clone, Copy)]
 pub(crate) enum Attempt {
-    /// The text stands at the end of the script.
+    /// The text is at the end of the script.
     Written,
-    /// Nothing was written: the row isn't one for this way, or its text is refused. The way by the
-    /// text of its assignments tells which.
+    /// Nothing was written: the row isn't one for this way, or its text is refused. The slow way,
+    /// by the text of its assignments, finds which.
     Left,
 }
 
 impl<'q> TakenQuery<'q> {
-    /// Writes the text, as [`TakenQuery::text`] gives it, to the end of a script; if it refuses,
-    /// the script stays as it is. The names are those of the query, which are listed once for many
-    /// rows.
+    /// Writes the text that [`TakenQuery::text`] gives to the end of a script. If it refuses, the
+    /// script stays as it is. The names are those of the query, listed once for many rows.
     pub(crate) fn append(
         &self,
         alloc: Global,
@@ -67,7 +66,7 @@ impl<'q> TakenQuery<'q> {
         }
     }
 
-    // Writes the text to the end of the script by a vector of its own.
+    // The slow way: writes the text into a vector of its own, and then to the end of the script.
     pub(crate) fn append_text(
         &self,
         alloc: Global,
@@ -86,8 +85,8 @@ impl<'q> TakenQuery<'q> {
         Ok(())
     }
 
-    // Writes the text of a few values with names, each of which comes once. It leaves others, a
-    // text that can't be written, and one that a client would change.
+    // The fast way, for a few values with distinct names. It writes nothing for other assignments,
+    // if the text is refused, or if a client would change it.
     fn append_values(
         &self,
         alloc: Global,
@@ -120,7 +119,7 @@ impl<'q> TakenQuery<'q> {
         Ok(Attempt::Left)
     }
 
-    // The same, whether or not the text is portable. What is written has no fragment.
+    // The same, whether or not the text is portable. It writes only values, no fragments.
     fn append_assigned(
         &self,
         alloc: Global,
@@ -149,7 +148,7 @@ impl<'q> TakenQuery<'q> {
         }
     }
 
-    // The same of pairs of a name and a value.
+    // The same for pairs of a name and a value.
     fn append_pairs(
         &self,
         alloc: Global,
@@ -170,7 +169,7 @@ impl<'q> TakenQuery<'q> {
         if !are_some_and_distinct(pairs) {
             return Ok(Attempt::Left);
         }
-        // Called for what it ensures: the request takes the query, which so has no mark.
+        // Called for its `ensures` clause: the request takes the query, so the query has no mark.
         self.request();
         match values_in(alloc, query_names, pairs)? {
             Some(values) => self.append_found(alloc, values, script),
@@ -228,8 +227,8 @@ fn attempt_of(written: Result<(), BindError>) -> Result<Attempt, AllocError>
     }
 }
 
-// Whether a row has few values, and nothing else, for a query with names. It is asked before pairs
-// are made, which would be of no use otherwise.
+// Whether the query has names, and the row has only a few values. This is checked before pairs are
+// made, which would otherwise be made for nothing.
 fn are_few_values(query_names: &[&[u8]], assignments: &[Assignment]) -> bool
     ensures asked { IsTrue result → 0 < length query_names.now }
     ensures values { IsTrue result → has_fragment assignments.now ≡ false }
@@ -256,7 +255,7 @@ fn values_in<'v>(
     Ok(Some(values))
 }
 
-// Whether there are pairs, and no name stands in two.
+// Whether there are pairs, and no name is in two of them.
 fn are_some_and_distinct(pairs: &[(&[u8], Value)]) -> bool
     ensures some { IsTrue result → 0 < length pairs.now }
     ensures distinct { IsTrue result → are_distinct (map seen_pair pairs.now) ≡ true }
@@ -264,7 +263,7 @@ fn are_some_and_distinct(pairs: &[(&[u8], Value)]) -> bool
     !pairs.is_empty() && are_distinct(pairs)
 }
 
-// Whether no name stands in two pairs.
+// Whether no name is in two pairs.
 fn are_distinct(pairs: &[(&[u8], Value)]) -> bool
     ensures { result ≡ are_distinct (map seen_pair pairs.now) }
 {
