@@ -82,7 +82,7 @@ def wanted(rows, most_rows, most_bytes, stream, transaction):
     if refused is None:
         return begin + script + end, "", 0
     place, least = f"t.csv:{line_of(rows, refused)}", size([row_text(rows[refused])])
-    message = f"mysql_bind: {place}: a statement of this row alone has {least} bytes, and --max-bytes is {most_bytes}\n"
+    message = f"mysql_bind: {place}: a statement with only this row has {least} bytes, and --max-bytes is {most_bytes}\n"
     return begin + script if stream and (found or transaction) else "", message, 1
 
 

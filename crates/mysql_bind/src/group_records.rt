@@ -26,7 +26,7 @@ struct Grouped<'b> {
     query: TakenQuery<'b>,
     // How a record becomes a row.
     form: TableForm<'b>,
-    // What the other names are assigned.
+    // The assignments of the other names.
     fixed: &'b [Assignment],
     limits: Limits,
 }
@@ -42,7 +42,7 @@ fn statements_at_once(script: &TableScript<'_, '_>) -> usize {
     }
 }
 
-// What the other names are assigned, and `row` the bytes of one field.
+// The assignments of the other names, and that of one field's bytes to `row`.
 fn with_field(
     alloc: Global,
     wanted: &Wanted<'_>,
@@ -61,8 +61,8 @@ fn with_field(
     }
 }
 
-// What is said of a row whose text a client would change: by the first field with which it would,
-// or by what is the same in each row.
+// The complaint about a row whose text a client would change. It names the first field with which a
+// client would, or the values that are the same in each row.
 fn changed_row(
     alloc: Global,
     wanted: &Wanted<'_>,
@@ -93,36 +93,66 @@ fn changed_row(
     Ok(bad_row(alloc, path, row.line, what))
 }
 
-// What is said of the row of the record that begins at an index, and is refused for this. The first
-// later record that isn't one, or has another number of fields, is told behind it.
+// The complaint about the row of the record that begins at an index. The row is refused for this
+// failure.
 fn row_refused(
-    script: &mut TableScript<'_, '_>,
-    rt: &HostRuntime,
+    alloc: Global,
+    wanted: &Wanted<'_>,
     grouped: &Grouped<'_>,
     at: usize,
     failure: Failure,
 ) -> Result<Complaint, Complaint> {
     let table = grouped.table;
+    let mut fields = Vec::new(alloc);
+    if table
+        .read(alloc, table.from_index(at), &mut fields)?
+        .is_none()
+    {
+        return Err(Complaint::Memory);
+    }
+    let cells = record_cells(alloc, &grouped.form, fields.as_slice())?;
+    let mut assigned = assignments_of(alloc, grouped.names, cells.as_slice())?;
+    let (line, _) = table.place_of(at);
+    let line = line as u64;
+    if let Failure::UnportableText(_) = failure {
+        let assignments = assigned.as_slice();
+        return Ok(changed_row(alloc, wanted, RowAt { assignments, line })?);
+    }
+    add_fixed(&mut assigned, alloc, wanted)?;
+    let assignments = assigned.as_slice();
+    Ok(complaint_of_row(alloc, wanted, RowAt { assignments, line }, failure)?)
+}
+
+// The complaint about a row whose statement is too long.
+fn long_row(
+    alloc: Global,
+    wanted: &Wanted<'_>,
+    grouped: &Grouped<'_>,
+    at: usize,
+    bytes: usize,
+) -> Result<Complaint, Complaint> {
+    let (line, _) = grouped.table.place_of(at);
+    let most = grouped.limits.bytes;
+    let what = format!(in alloc;
+        "a statement with only this row has {bytes} bytes, and --max-bytes is {most}"
+    )?;
+    Ok(bad_row(alloc, wanted.path.as_str(), line as u64, what.as_str()))
+}
+
+// The complaint about a row, and behind it that about the first later record that isn't one or has
+// another number of fields. The row's record begins at the index. The beginning of a script is
+// written also before a refused row.
+fn with_later(
+    script: &mut TableScript<'_, '_>,
+    rt: &HostRuntime,
+    grouped: &Grouped<'_>,
+    at: usize,
+    complaint: Complaint,
+) -> Result<Complaint, Complaint> {
+    let table = grouped.table;
     let mut fields = Vec::new(rt.alloc());
     let Some(more) = table.read(rt.alloc(), table.from_index(at), &mut fields)? else {
         return Err(Complaint::Memory);
-    };
-    let cells = record_cells(rt.alloc(), &grouped.form, fields.as_slice())?;
-    let mut assigned = assignments_of(rt.alloc(), grouped.names, cells.as_slice())?;
-    let (line, _) = table.place_of(at);
-    let line = line as u64;
-    let complaint = if let Failure::UnportableText(_) = failure {
-        let assignments = assigned.as_slice();
-        changed_row(rt.alloc(), script.wanted, RowAt { assignments, line })?
-    } else {
-        add_fixed(&mut assigned, rt.alloc(), script.wanted)?;
-        let assignments = assigned.as_slice();
-        complaint_of_row(
-            rt.alloc(),
-            script.wanted,
-            RowAt { assignments, line },
-            failure,
-        )?
     };
     if script.stream {
         script.begin(rt)?;
@@ -133,7 +163,7 @@ fn row_refused(
     }
 }
 
-// What is said of a refusal in a rest of the table.
+// The complaint about a refusal in a rest of the table.
 fn group_refused(
     script: &mut TableScript<'_, '_>,
     rt: &HostRuntime,
@@ -151,16 +181,14 @@ fn group_refused(
             Ok(table.length_refused(rt.alloc(), at, fields, columns))
         }
         GroupRefusal::Row { at, failure } => {
-            row_refused(script, rt, grouped, start.saturating_add(at), failure)
+            let at = start.saturating_add(at);
+            let complaint = row_refused(rt.alloc(), script.wanted, grouped, at, failure)?;
+            with_later(script, rt, grouped, at, complaint)
         }
         GroupRefusal::Long { at, bytes } => {
-            let (line, _) = table.place_of(start.saturating_add(at));
-            let most = grouped.limits.bytes;
-            let what = format!(in rt.alloc();
-                "a statement of this row alone has {bytes} bytes, and --max-bytes is {most}"
-            )?;
-            let path = script.wanted.path.as_str();
-            Ok(bad_row(rt.alloc(), path, line as u64, what.as_str()))
+            let at = start.saturating_add(at);
+            let complaint = long_row(rt.alloc(), script.wanted, grouped, at, bytes)?;
+            with_later(script, rt, grouped, at, complaint)
         }
         GroupRefusal::Memory(_) => Ok(Complaint::Memory),
     }
@@ -198,7 +226,7 @@ fn add_statements(
         1
     };
     let mut rest = rest;
-    // What is added at once has a byte, except at the end.
+    // The records of each turn have a byte, except at the end.
     for _ in 0..grouped.table.bytes.len() {
         let form = GroupForm {
             table: grouped.form,

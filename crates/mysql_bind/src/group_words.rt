@@ -1,4 +1,4 @@
-//! What `--rows-per-statement` and `--max-bytes` say: how the rows of a table share statements.
+//! The options `--rows-per-statement` and `--max-bytes`, by which rows of a table share statements.
 use crate::column_words::ColumnWords;
 use crate::complaint::{Complaint, Place, bad_word, one_fault};
 use crate::matching::NamePlace;
@@ -9,12 +9,12 @@ use clap::ArgMatches;
 use mysql_bind_core::{ROW_NAME, ValueType};
 use std::alloc::Global;
 
-/// What a statement of several rows has at most.
+/// The limits of a statement of several rows.
 #[derive(Clone, Copy)]
 pub struct Limits {
-    /// Its rows.
+    /// The largest number of its rows.
     pub rows: usize,
-    /// Its bytes, with the line of its `;`.
+    /// The largest number of its bytes, with the line of its `;`.
     pub bytes: usize,
 }
 
@@ -36,7 +36,7 @@ fn number_of(
     }
 }
 
-/// What the words say, if they say something.
+/// The limits that the words give, if they give some.
 pub fn limits_of(alloc: Global, matches: &ArgMatches<'_>) -> Result<Option<Limits>, Complaint> {
     let rows = number_of(alloc, matches, "rows-per-statement")?;
     let bytes = number_of(alloc, matches, "max-bytes")?;
@@ -59,7 +59,7 @@ pub fn check_types(alloc: Global, words: &ColumnWords) -> Result<(), Complaint> 
         };
         let name = SourceName(column.name.as_slice());
         let what = format!(in alloc;
-            "--column {name}:{what}: no row of `:row` has one: give it another type, or leave out \
+            "--column {name}:{what}: no {what} stands in a row: give it another type, or leave out \
              --rows-per-statement and --max-bytes"
         )?;
         return Err(bad_word(alloc, what.as_str()));

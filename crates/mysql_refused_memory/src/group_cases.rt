@@ -90,7 +90,7 @@ fn appended(alloc: Global, row: GroupRow) -> Case {
             fixed: &[],
         },
         fixed: fixed.as_slice(),
-        rows,
+        rows: rows.max(1),
         bytes,
         start: 1,
         statements: usize::MAX,
