@@ -8,7 +8,7 @@ use Rattle.mysql_bind_core.specs.GroupSearch.{AreRead, IsFit, IsMost, IsRestOf, 
 use Rattle.mysql_bind_core.specs.Groups.{AreGroups, AreGroupsAppended, AreUnfit, AreUnfitRecords, IsFull, IsGroup, IsGroupRefused, last_count, more_groups, no_groups, of_next, of_rest, of_rows, records_of, too_long, with_row, without_row}
 use Rattle.mysql_bind_core.specs.Groups as groups
 use Rattle.mysql_bind_core.specs.RowItems.{BeginsWithRow, BeginsWithRows, RowsSaid, more_rows, no_rows, rows_said}
-use Rattle.mysql_bind_core.specs.RowsBound.{IsRowsBoundRefusal, IsRowsWritten}
+use Rattle.mysql_bind_core.specs.RowsBound.{IsRowsBoundRefusal, IsRowsWritten, is_of_memory}
 use Rattle.mysql_bind_core.specs.Scripts.{script, statement}
 use Rattle.mysql_bind_core.specs.Tables.{Fields, no_records}
 use Rattle.mysql_bind_core.specs.TakenQuery.{RequestedQuery}
@@ -65,11 +65,12 @@ place_of_rest form text rest at h is = place_of form.format text h.0 rest at h.1
 
 pub one_refused : (query : RequestedQuery) (form : GroupForm) (text rest : List ℕ) (most : ℕ) (read : ReadRows) (count at : ℕ) (why : Failure) →
     IsRestOf form.table text rest → AreRead form.table rest most read → count ≡ length read.rows.items → count ≤ 1 → at ≡ length text - length rest →
-    IsRowsBoundRefusal query form.fixed.now (rows_said read.rows.items) why → IsGroupRefused query form text rest (refusal.Row at why)
-one_refused query form text rest most read count at why of are number few is refused =
+    IsRowsBoundRefusal query form.fixed.now (rows_said read.rows.items) why → is_of_memory why ≡ false →
+    IsGroupRefused query form text rest (refusal.Row at why)
+one_refused query form text rest most read count at why of are number few is refused other =
     let one = read_one form.table rest most read count are number few in
     with_row one.0 one.1 read.rest.now at why one.2 (place_of_rest form.table text rest at of is)
-    (subst (λ rows. IsRowsBoundRefusal query form.fixed.now rows why) one.3 refused) refl
+    (subst (λ rows. IsRowsBoundRefusal query form.fixed.now rows why) one.3 refused) other refl
 
 pub one_long : (query : RequestedQuery) (form : GroupForm) (text rest : List ℕ) (most : ℕ) (read : ReadRows) (count at bytes : ℕ) (written : List ℕ) →
     IsRestOf form.table text rest → AreRead form.table rest most read → count ≡ length read.rows.items → count ≤ 1 → at ≡ length text - length rest →

@@ -100,15 +100,15 @@ HasNoRow form text rest (refusal.Long at number) = ⊥
 HasNoRow form text rest (refusal.Memory error) = ⊤
 
 -- Why the record at the front of the rest of a text has no statement, or out of memory: it has no
--- row, or a statement of only its row is refused or too long.
+-- row, or a statement of only its row is too long, or is refused for another reason than memory.
 pub data IsGroupRefused (query : RequestedQuery) (form : GroupForm) (text rest : List ℕ)
     (why : GroupRefusal) : Type 0 where
   without_row : HasNoRow form.table text rest why → IsGroupRefused query form text rest why
   with_row : (fields : Fields) (items : List ItemContent) (behind : List ℕ) (at : ℕ)
       (cause : Failure) →
       BeginsWithRow form.table rest fields items behind → drop at text ≡ rest →
-      IsRowsBoundRefusal query form.fixed.now (items ∷ []) cause → why ≡ refusal.Row at cause →
-      IsGroupRefused query form text rest why
+      IsRowsBoundRefusal query form.fixed.now (items ∷ []) cause → is_of_memory cause ≡ false →
+      why ≡ refusal.Row at cause → IsGroupRefused query form text rest why
   too_long : (fields : Fields) (items : List ItemContent) (behind : List ℕ) (at : ℕ)
       (written : List ℕ) →
       BeginsWithRow form.table rest fields items behind → drop at text ≡ rest →

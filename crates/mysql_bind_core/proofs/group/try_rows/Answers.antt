@@ -34,4 +34,4 @@ pub returns-else-count-gt1-2-clause-refused : goal.returns-else-count-gt1-2-clau
 returns-else-count-gt1-2-clause-refused c =
     one_refused c.args.query.now c.args.form.now c.args.unread.text.now c.args.unread.rest.now c.args.most c.in_ok-rows.field-0 c.len-count.result _ c.in-Err.failure
     c.requires.rest c.in_ok-rows.ensures.read (omega (arith, c.len-count.ensures, c.in_ok-rows.rows.ok.0)) (omega (arith, c.if-count-gt1-2.false)) refl
-    c.in-Err.ensures.refused
+    c.in-Err.ensures.refused (sym c.if-is_of_memory.ensures)
