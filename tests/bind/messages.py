@@ -108,6 +108,14 @@ def shapes():
         for kind in "int", "hex":
             yield with_query(["rows", f"--column=a:{kind}"], Refusal([option, "given"], {"given": text.encode()}))
             yield with_query(["rows", f"--column=a:{kind}", "--stream"], Refusal([option, "-"], stdin=text.encode()))
+    # The first line of a table without names is a row of values.
+    changed = ["--literals=plain", "--mode=no-backslash"]
+    nameless = [
+        (f"{SECRET}\n".encode() + BYTES + b"\n", []), (f"{SECRET},b\n1\n".encode(), []),
+        (f'{SECRET}\n"\ndelimiter"\n'.encode(), changed), (f"{SECRET}\n{SECRET}\n".encode(), ["--max-bytes=9"]),
+    ]  # fmt: skip
+    for (text, more), option in itertools.product(nameless, ["--csv", "--mysql-csv"]):
+        yield with_query(["rows", "--rows-per-statement=2", *more], Refusal([option, "-"], stdin=text), b"SELECT :row")
     pairs = [
         SECRET, f"a={SECRET}", f"{SECRET}\0", f"a:{SECRET}=x\0", f":{SECRET}=x\0", f"a=x\0{SECRET}=x\0", f"a=x\0a=x{SECRET}\0",
     ]  # fmt: skip

@@ -87,9 +87,11 @@ fn advice_of(assignments: &[Assignment], name: &[u8]) -> &'static str {
 
 /// A place of a query that makes a client change the text, and the message about it.
 #[derive(Drop)]
-pub struct ChangedText {
+pub struct ChangedText<'q> {
     /// The index of the place in the query.
     pub at: usize,
+    /// The name of the place.
+    pub name: &'q [u8],
     /// The message: the name of the place, the reason, and what to do.
     pub what: String,
 }
@@ -107,13 +109,13 @@ pub fn changed_column(alloc: Global, name: &[u8], found: Unportable) -> Result<S
 
 /// The place of the query that makes a client change the bound text. The client changes it at the
 /// construct `found`.
-pub fn changed_text(
+pub fn changed_text<'q>(
     alloc: Global,
-    query: &[u8],
+    query: &'q [u8],
     assignments: &[Assignment],
     request: Request,
     found: Unportable,
-) -> Result<ChangedText, AllocError> {
+) -> Result<ChangedText<'q>, AllocError> {
     let binding = Binding {
         query,
         assignments,
@@ -130,5 +132,5 @@ pub fn changed_text(
         reason_of(found.construct),
         advice_of(assignments, name)
     )?;
-    Ok(ChangedText { at, what })
+    Ok(ChangedText { at, name, what })
 }

@@ -3,8 +3,9 @@ use crate::changed_text::{changed_column, changed_text};
 use crate::columns::{Column, Wanted, add_fixed};
 use crate::complaint::{Complaint, bad_row};
 use crate::group_words::Limits;
+use crate::matching::is_new;
 use crate::query_file::complaint_of;
-use crate::records::{Table, bound_names, table_columns};
+use crate::records::{Table, table_columns};
 use crate::refused_row::{RowAt, complaint_of_row};
 use crate::table_script::TableScript;
 use crate::values::Values;
@@ -13,6 +14,7 @@ use mysql_bind_core::{
     assignments_of, bound_text, record_cells,
 };
 use std::alloc::{AllocError, Global};
+use std::collections::BTreeSet;
 
 // So many statements are appended at once where progress is told.
 const STATEMENTS_AT_ONCE: usize = 16;
@@ -21,7 +23,7 @@ const STATEMENTS_AT_ONCE: usize = 16;
 #[derive(Drop)]
 struct Grouped<'b> {
     table: Table<'b>,
-    // The names of the columns that are used, and of the values that are the same in each row.
+    // The names that messages have for the columns that are used.
     names: &'b [&'b [u8]],
     query: TakenQuery<'b>,
     // How a record becomes a row.
@@ -80,8 +82,7 @@ fn changed_row(
             request,
         ) {
             let by = changed_text(alloc, query, assigned.as_slice(), request, found)?;
-            let rest = query.get(by.at..).unwrap_or(b"");
-            let what = if rest.starts_with(b":row") {
+            let what = if by.name == ROW_NAME {
                 changed_column(alloc, field.name.as_slice(), found)?
             } else {
                 by.what
@@ -255,6 +256,50 @@ fn add_statements(
     Ok(())
 }
 
+// The names that messages have for the columns that are used: those that options give, and numbers
+// for all others. The first line of a table without names is a row of values, which no message
+// has.
+fn shown_names(
+    alloc: Global,
+    wanted: &Wanted<'_>,
+    columns: &[Column],
+) -> Result<Vec<Vec<u8>>, AllocError> {
+    let mut given = BTreeSet::new(alloc);
+    for column in wanted.words.named.as_slice() {
+        is_new(&mut given, column.name.as_slice())?;
+    }
+    for null in wanted.words.nulls.as_slice() {
+        is_new(&mut given, null.name.as_slice())?;
+    }
+    let mut names = Vec::new(alloc);
+    for i in 0..columns.len() {
+        if !columns[i].used {
+            continue;
+        }
+        let name = columns[i].name.as_deref().unwrap_or(b"");
+        let shown = if given.contains(name) {
+            Vec::from_slice(alloc, name)?
+        } else {
+            let number = i.saturating_add(1);
+            let shown = format!(in alloc; "column {number}")?;
+            Vec::from_slice(alloc, shown.as_bytes())?
+        };
+        if names.push(shown).is_err() {
+            return Err(AllocError);
+        }
+    }
+    Ok(names)
+}
+
+// The names as slices.
+fn slices<'n>(alloc: Global, names: &'n [Vec<u8>]) -> Result<Vec<&'n [u8]>, AllocError> {
+    let mut slices = Vec::new(alloc);
+    for name in names {
+        slices.push(name.as_slice())?;
+    }
+    Ok(slices)
+}
+
 /// Adds the statements of a rest of a table, which has these columns, several rows in each.
 pub fn add_groups(
     script: &mut TableScript<'_, '_>,
@@ -267,7 +312,8 @@ pub fn add_groups(
     let Some(limits) = wanted.limits else {
         return Ok(());
     };
-    let names = bound_names(rt.alloc(), wanted, columns)?;
+    let shown = shown_names(rt.alloc(), wanted, columns)?;
+    let names = slices(rt.alloc(), shown.as_slice())?;
     let taken = table_columns(rt.alloc(), columns)?;
     let mut fixed = Vec::new(rt.alloc());
     add_fixed(&mut fixed, rt.alloc(), wanted)?;

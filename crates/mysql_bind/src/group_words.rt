@@ -76,7 +76,7 @@ pub fn check_row(
 ) -> Result<(), Complaint> {
     if !places.iter().any(|place| place.name.as_slice() == ROW_NAME) {
         let what = "there is no name `:row` for the rows of --rows-per-statement and --max-bytes: \
-             write it in place of a row, as INSERT INTO t (a, b) VALUES :row";
+             write it in place of a row, as in INSERT INTO t (a, b) VALUES :row";
         let place = Place::File(String::from_str(alloc, query.path)?);
         let what = String::from_str(alloc, what)?;
         return Err(Complaint::Refused(one_fault(alloc, place, what)?));

@@ -50,7 +50,8 @@ with `;` on a line of its own. The values above are the same in each row:
                             the name :row, as in INSERT INTO t (a, b) VALUES :row
       --max-bytes M         the same with as many rows as M bytes take (with the
                             line of the `;`); with both, whichever is reached
-                            first. A row has the columns in their order, and the
+                            first. A row has all columns in the order of the
+                            first line, whatever order the query lists; the
                             other names have values by options (not for NDJSON)
       --transaction         START TRANSACTION before the first row, COMMIT after
                             the last: a script that is cut off changes nothing

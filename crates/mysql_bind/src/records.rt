@@ -166,9 +166,9 @@ impl<'t> Table<'t> {
     }
 }
 
-/// The names that are bound in each row: those of the columns that are used, and those of the
-/// values that are the same in each row.
-pub fn bound_names<'n>(
+// The names that are bound in each row: those of the columns that are used, and those of the
+// values that are the same in each row.
+fn bound_names<'n>(
     alloc: Global,
     wanted: &'n Wanted<'_>,
     columns: &'n [Column],
