@@ -21,11 +21,10 @@ const STATEMENTS_AT_ONCE: usize = 16;
 
 // The table, and what its statements are made of.
 #[derive(Drop)]
-struct Grouped<'b> {
-    table: Table<'b>,
-    // The names that messages have for the columns that are used.
-    names: &'b [&'b [u8]],
-    query: TakenQuery<'b>,
+struct Grouped<'t, 'c, 'q, 'b> {
+    table: Table<'t>,
+    columns: &'c [Column],
+    query: TakenQuery<'q>,
     // How a record becomes a row.
     form: TableForm<'b>,
     // The assignments of the other names.
@@ -99,7 +98,7 @@ fn changed_row(
 fn row_refused(
     alloc: Global,
     wanted: &Wanted<'_>,
-    grouped: &Grouped<'_>,
+    grouped: &Grouped<'_, '_, '_, '_>,
     at: usize,
     failure: Failure,
 ) -> Result<Complaint, Complaint> {
@@ -112,7 +111,9 @@ fn row_refused(
         return Err(Complaint::Memory);
     }
     let cells = record_cells(alloc, &grouped.form, fields.as_slice())?;
-    let mut assigned = assignments_of(alloc, grouped.names, cells.as_slice())?;
+    let shown = shown_names(alloc, wanted, grouped.columns)?;
+    let names = slices(alloc, shown.as_slice())?;
+    let mut assigned = assignments_of(alloc, names.as_slice(), cells.as_slice())?;
     let (line, _) = table.place_of(at);
     let line = line as u64;
     if let Failure::UnportableText(_) = failure {
@@ -128,7 +129,7 @@ fn row_refused(
 fn long_row(
     alloc: Global,
     wanted: &Wanted<'_>,
-    grouped: &Grouped<'_>,
+    grouped: &Grouped<'_, '_, '_, '_>,
     at: usize,
     bytes: usize,
 ) -> Result<Complaint, Complaint> {
@@ -146,7 +147,7 @@ fn long_row(
 fn with_later(
     script: &mut TableScript<'_, '_>,
     rt: &HostRuntime,
-    grouped: &Grouped<'_>,
+    grouped: &Grouped<'_, '_, '_, '_>,
     at: usize,
     complaint: Complaint,
 ) -> Result<Complaint, Complaint> {
@@ -168,7 +169,7 @@ fn with_later(
 fn group_refused(
     script: &mut TableScript<'_, '_>,
     rt: &HostRuntime,
-    grouped: &Grouped<'_>,
+    grouped: &Grouped<'_, '_, '_, '_>,
     rest: &[u8],
     refusal: GroupRefusal,
 ) -> Result<Complaint, Complaint> {
@@ -215,7 +216,7 @@ fn note_rows(
 fn add_statements(
     script: &mut TableScript<'_, '_>,
     rt: &HostRuntime,
-    grouped: &Grouped<'_>,
+    grouped: &Grouped<'_, '_, '_, '_>,
     rest: &[u8],
 ) -> Result<(), Complaint> {
     let rows = grouped.limits.rows.max(1);
@@ -312,14 +313,12 @@ pub fn add_groups(
     let Some(limits) = wanted.limits else {
         return Ok(());
     };
-    let shown = shown_names(rt.alloc(), wanted, columns)?;
-    let names = slices(rt.alloc(), shown.as_slice())?;
     let taken = table_columns(rt.alloc(), columns)?;
     let mut fixed = Vec::new(rt.alloc());
     add_fixed(&mut fixed, rt.alloc(), wanted)?;
     let grouped = Grouped {
         table,
-        names: names.as_slice(),
+        columns,
         query: taken_query(rt.alloc(), wanted)?,
         form: TableForm {
             format: table.format,
