@@ -89,7 +89,8 @@ int32_t mysql_params_table_wide(const uint8_t *query, size_t query_len, bool mod
                                 mysql_params_place *places, size_t places_len, mysql_params_report *report)
 {
     int32_t number = told(query, report);
-    (void)query_len, (void)mode, (void)head, (void)places;
+    (void)query_len, (void)mode, (void)places;
+    memset(head, 0, sizeof *head);
     return number == MYSQL_PARAMS_ROOM && places_len >= report->len ? MYSQL_PARAMS_DONE : number;
 }
 
