@@ -16,8 +16,7 @@ const LIST: u8 = 129;
 const ROWS: u8 = 130;
 
 /// The heads of the table: the call, and each side except the archive.
-pub const FRAGMENTS: [&str; 4] =
-    ["`bind_fragments`", "table", "16 bytes", "table, behind the calls"];
+pub const FRAGMENTS: [&str; 4] = ["`bind_fragments`", "table", "16 bytes", "table, behind"];
 
 /// What a caller has.
 enum Things {

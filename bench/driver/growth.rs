@@ -27,12 +27,7 @@ pub fn measure(report: &mut Report) {
     rows_of_both(report, "one mark", MEGABYTES, one);
     report.head(&["`bind`: time a name over that of 1000 names", "10000", "100000"]);
     rows_of_both(report, "names", NAMES, inputs::many_names);
-    rows_of_both(
-        report,
-        "names that collide in std's hash map",
-        NAMES,
-        inputs::colliding_names,
-    );
+    rows_of_both(report, "colliding names", NAMES, inputs::colliding_names);
 }
 
 fn rows_of_both(

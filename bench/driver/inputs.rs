@@ -95,7 +95,7 @@ pub fn bindings() -> Vec<Binding> {
     vec![
         Binding { name: "1000 marks", query: marks, given: thousand.collect() },
         Binding {
-            name: "one text of 1 MiB, a quote every 20 bytes",
+            name: "one text of 1 MiB",
             query: b"SELECT ?".to_vec(),
             given: vec![text(b"", &quotes)],
         },

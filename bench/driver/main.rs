@@ -98,4 +98,4 @@ fn measured() -> Report {
 }
 
 /// The head of the last column.
-const GIVEN_BACK: &str = "table, memory given back";
+const GIVEN_BACK: &str = "table, given back";

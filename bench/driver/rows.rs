@@ -11,7 +11,7 @@ use std::hint::black_box;
 
 /// The heads of the table: the call, and each side except the archive.
 pub const ROWS: [&str; 5] =
-    ["`bind_rows`", "table", "16 bytes", "table, behind the calls", "the archive's `bind` by row"];
+    ["`bind_rows`", "table", "16 bytes", "table, behind", "the archive's `bind` by row"];
 
 /// The forms of all rows in a new vector, the call, and the texts in lent room.
 fn by_archive(input: &RowsInput, room: &RefCell<Vec<u8>>) -> usize {

@@ -22,12 +22,11 @@ const OWN_SIDES: usize = 3;
 /// The heads of a table of `names`: the call, and each side except the archive.
 pub const PARSING: [&str; 4] = ["`names`", "table", "16 bytes", "upstream"];
 /// The same of `bind`.
-pub const BINDING: [&str; 5] =
-    ["`bind`", "table", "16 bytes", "table, behind the calls", "16 bytes, behind the calls"];
+pub const BINDING: [&str; 5] = ["`bind`", "table", "16 bytes", "table, behind", "16 bytes, behind"];
 
 /// The same of binding for any mode and any server, beside the archive's binding in a mode.
 pub const ANYWHERE: [&str; 4] =
-    ["`bind_anywhere`", "table", "table, behind the calls", "the archive's `bind`"];
+    ["`bind_anywhere`", "table", "table, behind", "the archive's `bind`"];
 
 /// The same of binding by a template that was made before.
 #[cfg(templates)]
@@ -35,8 +34,8 @@ pub const BY_TEMPLATE: [&str; 6] = [
     "`bind` by a template",
     "table",
     "16 bytes",
-    "table, behind the calls",
-    "16 bytes, behind the calls",
+    "table, behind",
+    "16 bytes, behind",
     "`memcpy` of the query",
 ];
 
