@@ -19,7 +19,7 @@ pub const KEYWORD: u8 = 133;
 pub const IDENTIFIERS: u8 = 134;
 pub const ASSIGNMENTS: u8 = 135;
 
-/// The keywords that bindings/README.md lists.
+/// The keywords that bindings/c/mysql_params.h lists.
 pub const KEYWORDS: [&str; 33] = [
     "ASC",
     "DESC",

@@ -777,7 +777,7 @@ static void append_fault(line *to, const mysql_params_report *report)
         append_text(to, "name %zu ends in a space", report->values);
         return;
     case MYSQL_PARAMS_FAULT_KEYWORD:
-        append_text(to, "it is none of the keywords in capitals that README lists");
+        append_text(to, "it is none of the keywords in capitals that mysql_params.h lists");
         return;
     case MYSQL_PARAMS_FAULT_BACKSLASH:
         append_text(to, "name %zu has a backslash before a backquote or at its end", report->values);

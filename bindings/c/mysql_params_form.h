@@ -117,7 +117,8 @@ bool mysql_params_append_identifier(mysql_params_form *form, const char *name, c
 bool mysql_params_append_qualified(mysql_params_form *form, const char *name, const char *const *identifiers,
                                    uint32_t count);
 
-/* Appends a keyword that your program has, as "DESC", one of those that README lists: never a text from outside. */
+/* Appends a keyword that your program has, as "DESC", one of those that MYSQL_PARAMS_FAULT_KEYWORD lists: never a text from
+ * outside. For another word choose among queries of your program. */
 bool mysql_params_append_keyword(mysql_params_form *form, const char *name, const char *keyword);
 
 /* Begins a list. Then append its items by the functions above, without a name, and end it. No list fits in a list. */

@@ -168,7 +168,7 @@ static void fragments()
     }
     same(thrown([] { mysql_params::Form().append_identifier("t", "a\0b"s); }), "invalid argument");
     same(thrown([] { bind_fragments("ORDER BY a ?", mysql_params::Form().append_keyword(nullptr, "desc")); }),
-         "17 Fragment at place 0 can't be written: it is none of the keywords in capitals that README lists");
+         "17 Fragment at place 0 can't be written: it is none of the keywords in capitals that mysql_params.h lists");
 }
 
 /* What is exact, alone and in lists and rows, and a name in another. */

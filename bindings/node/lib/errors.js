@@ -104,7 +104,7 @@ function refusalOf(told, query, flags) {
   for (const field of FIELDS[code] ?? []) fields[field] = all[field]
   const word = wordOf(code, position, query)
   if (word !== undefined) fields.word = word
-  const message = said.replace('that README lists', 'that KEYWORDS lists')
+  const message = said.replace('that mysql_params.h lists', 'that KEYWORDS lists')
   return new BindError(message + more(code, all, word), fields)
 }
 

@@ -209,7 +209,7 @@ test('keywords', function () {
         $message = 'MysqlParams\Keyword::__construct(): Argument #1 ($word) must be one of the keywords ' . $told . ', and it has ' . strlen($word) . ' bytes of another text';
         refused(\ValueError::class, $message, fn () => new Keyword($word, $among));
     }
-    $message = "Fragment at place 0 can't be written: it is none of the keywords in capitals that README lists";
+    $message = "Fragment at place 0 can't be written: it is none of the keywords in capitals that mysql_params.h lists";
     refused(BindException::class, $message, fn () => bind('SELECT ?', [new Keyword('BETWEEN', ['BETWEEN'])]));
     same(Fault::Keyword, thrown(fn () => bind('SELECT ?', [new Keyword("DESC\0", ["DESC\0"])]))->fault);
 });

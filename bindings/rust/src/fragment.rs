@@ -93,8 +93,23 @@ pub enum Fragment<'a> {
     Identifiers(Vec<Column<'a>>),
     /// Assignments, as for `SET ?`: see [`Fragment::assignments`].
     Assignments(Vec<(Column<'a>, Item<'a>)>),
-    /// A keyword of the program's own, as `DESC`: never a text from outside. It is written if it is one of those that the
-    /// crate's README.md lists.
+    /// A keyword of the program's own, as `DESC`: never a text from outside. Only these are written; for another word choose
+    /// among whole queries of your program.
+    ///
+    /// ```
+    /// use mysql_params::{Fragment, Fragments, bind_fragments};
+    ///
+    /// let keywords = [
+    ///     "ASC", "DESC", "ALL", "DISTINCT", "AND", "OR", "XOR", "NOT", "NULL", "IS NULL", "IS NOT NULL", "DEFAULT", "TRUE",
+    ///     "FALSE", "LIKE", "NOT LIKE", "MICROSECOND", "SECOND", "MINUTE", "HOUR", "DAY", "WEEK", "MONTH", "QUARTER", "YEAR",
+    ///     "LEFT", "RIGHT", "INNER", "CROSS", "UNION", "UNION ALL", "FOR UPDATE", "LOCK IN SHARE MODE",
+    /// ];
+    /// for keyword in keywords {
+    ///     let text = bind_fragments(b"?", &Fragments::Positional(&[Fragment::Keyword(keyword)]))?;
+    ///     assert_eq!(text, keyword.as_bytes());
+    /// }
+    /// # Ok::<(), mysql_params::Error>(())
+    /// ```
     Keyword(&'static str),
 }
 
@@ -192,7 +207,7 @@ pub enum Fault {
         /// Its number among all names of the fragment; 0 for a name alone.
         part: usize,
     },
-    /// A text that is none of the keywords that are written: the crate's README.md lists them, all in capitals.
+    /// A text that is none of the keywords that are written: [`Fragment::Keyword`] lists them, all in capitals.
     Keyword,
     /// A name with a backslash before a backquote or at its end.
     Backslash {
@@ -236,7 +251,7 @@ impl fmt::Display for Fault {
             Fault::TrailingSpace { part } => write!(f, "name {part} ends in a space"),
             Fault::Keyword => write!(
                 f,
-                "it is none of the keywords in capitals that README lists"
+                "it is none of the keywords in capitals that Fragment::Keyword lists"
             ),
             Fault::Backslash { part } => write!(
                 f,

@@ -136,7 +136,7 @@ fn what_messages_advise() {
 
     let given = [("order", Fragment::Keyword("desc"))];
     let error = bind_fragments_str("ORDER BY a :order", &Fragments::Named(&given));
-    let advice = "it is none of the keywords in capitals that README lists";
+    let advice = "it is none of the keywords in capitals that Fragment::Keyword lists";
     let message = format!("Fragment at place 0 can't be written: {advice}: the value of `:order`");
     assert_eq!(error.expect_err("it is no capital").to_string(), message);
 }
