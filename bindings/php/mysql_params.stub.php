@@ -8,6 +8,10 @@
  * list of values, a list of lists as rows, a Decimal, an Identifier or a list of them, Assignments or a Keyword. Anything
  * else is a TypeError, which tells the place.
  *
+ * A DateTimeInterface is written with its microseconds, in the years 1 to 9999. A DateInterval is hours, minutes and seconds with
+ * a sign. PHP makes a float of a whole number that no int holds: write a Decimal. A Decimal of up to 64 bits is taken wherever a
+ * value is.
+ *
  * `$no_backslash_escape` says whether the connection's `@@sql_mode` has NO_BACKSLASH_ESCAPES. It is true or false: anything
  * else is a TypeError.
  */
@@ -117,10 +121,11 @@ function first_unportable_in_client(string $query, bool $no_backslash_escape = f
 }
 
 /**
- * Binds a query, sends the text by `PDO::query` or `mysqli::query`, and returns what that returns.
+ * Binds a query, sends the text by `PDO::query` or `mysqli::query`, without parameters, and returns what that returns.
  *
- * The connection's mode, character sets and max_allowed_packet are asked for before the first text, and kept. The query is
- * portable.
+ * The connection's mode, character sets and max_allowed_packet are asked for before the first text, and kept while the object
+ * lives. They are asked for anew when the driver tells of another mode, and with mysqli after a reconnect, `change_user` or
+ * `set_charset`; with $always_ask before each text. The query is portable.
  *
  * @param array<mixed> $params
  * @throws BindException also for a connection that isn't utf8mb4, and for a text that is too long
@@ -232,7 +237,13 @@ final class Assignments
     }
 }
 
-/** A keyword of the program, as `DESC`, chosen among those that it names: else a ValueError. */
+/**
+ * A keyword of the program, as `DESC`, chosen among those that it names: else a ValueError. It is never a text from outside.
+ *
+ * The archive writes these alone: ASC, DESC, ALL, DISTINCT, AND, OR, XOR, NOT, NULL, IS NULL, IS NOT NULL, DEFAULT, TRUE, FALSE,
+ * LIKE, NOT LIKE, MICROSECOND, SECOND, MINUTE, HOUR, DAY, WEEK, MONTH, QUARTER, YEAR, LEFT, RIGHT, INNER, CROSS, UNION,
+ * UNION ALL, FOR UPDATE, LOCK IN SHARE MODE.
+ */
 final class Keyword
 {
     public readonly string $word;
@@ -316,22 +327,39 @@ enum Fault: int
 /** A refusal. Its code is that of C, or SESSION or PACKET. A field that it doesn't tell is null. */
 class BindException extends \RuntimeException
 {
+    /** The form ends within a parameter: of a flat form that you write yourself, as the next three. */
     const FORM_END = 3;
+    /** A length in the form begins with a wrong byte. */
     const FORM_LENGTH_LEAD = 4;
+    /** A parameter of the form has a column type without a binary form. */
     const FORM_TYPE = 5;
+    /** The form has parameters with and without a name. */
     const FORM_MIXED = 6;
+    /** A name is given twice, as with a colon and without. */
     const FORM_REPEATED = 7;
+    /** The query has names and marks. */
     const MIXED = 8;
+    /** A name of the query has no value. */
     const MISSING = 9;
+    /** Parameters with names, and the query has no names. */
     const NAMED_FOR_POSITIONAL = 10;
+    /** Parameters without names, and the query has names. */
     const POSITIONAL_FOR_NAMED = 11;
+    /** Not as many values as marks. */
     const MARK_COUNT = 12;
+    /** A place could run into its neighbour, as in `1?`. */
     const NOT_ALONE = 13;
+    /** A NaN or an infinity: give null. By bind_in_both_modes each float. */
     const FLOAT = 14;
+    /** By bind_anywhere: a backslash or a byte that isn't ASCII in the query. Take bind_in_both_modes, or bind. */
     const UNSTEADY = 15;
+    /** Servers read the query in different ways, as with an executable comment: the message says what to write. */
     const UNPORTABLE = 16;
+    /** An empty list, no assignments, rows of two lengths, a wrong number, name or keyword: $fault. */
     const FAULT = 17;
+    /** By bind_in_both_modes: a backslash in a string of the query. Take bind. */
     const BACKSLASH = 18;
+    /** By bind_anywhere: a name that isn't ASCII without a backslash. Take bind. */
     const UNSTEADY_FRAGMENT = 19;
     /** The connection isn't utf8mb4, or gives no answer. */
     const SESSION = -1;
@@ -354,10 +382,12 @@ class BindException extends \RuntimeException
     public ?int $item = null;
     /** The name that is missing or repeated, that of the place of a value, or the variable of the session. */
     public ?string $name = null;
-    /** The word of the query that has a letter outside ASCII after a colon. */
+    /** The whole word of the query, if a letter outside ASCII stands in it after a colon, as in `:größe`. */
     public ?string $word = null;
     /** @var ?list<string> of bind_rows: the texts of the rows before it */
     public ?array $texts = null;
+    /** Of UNPORTABLE: what servers read in different ways. */
     public ?Construct $construct = null;
+    /** Of FAULT: what is wrong. */
     public ?Fault $fault = null;
 }

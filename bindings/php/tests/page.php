@@ -2,7 +2,8 @@
 
 /**
  * Runs each program of packages/php.md, which has to write what the block of `text` after it says. One that connects is run with
- * SOCKET, the socket of a MariaDB, and else left out. What the page says of comments and types is tried too.
+ * SOCKET, the socket of a MariaDB, and else left out. What the page says of comments is tried too, and the stub, to which it sends
+ * its reader, has to say when each refusal comes and what each field tells.
  */
 
 namespace MysqlParams\Tests;
@@ -57,13 +58,15 @@ function programs(string $page): array
     return $programs;
 }
 
-/** Returns the keywords that a page lists. */
-function keywords(string $file): array
+/** Returns the keywords that a comment lists after these words. */
+function keywords(string $file, string $words): array
 {
-    $text = preg_replace('/\s+/', ' ', file_get_contents($file));
-    same(1, preg_match('/ writes these alone: (ASC, [A-Z, ]*)\./', $text, $found), $file);
+    $text = preg_replace('/\s+(\*\s+)?/', ' ', file_get_contents($file));
+    same(1, preg_match("/ $words: (ASC, [A-Z, ]*)\\./", $text, $found), $file);
     return explode(', ', $found[1]);
 }
+
+const STUB = __DIR__ . '/../mysql_params.stub.php';
 
 $page = file_get_contents(__DIR__ . '/../../../packages/php.md');
 $found = programs($page);
@@ -80,29 +83,29 @@ test('the page has programs, and each has a text', function () use ($page, $foun
     same([3, 3, 3], [count($found), substr_count($page, "\n```php\n"), substr_count($page, "\n```text\n")]);
 });
 
-test('the page names each code of a refusal that it can have', function () use ($page) {
+test('the stub says when each refusal comes, and what each field tells', function () {
+    $stub = file_get_contents(STUB);
     foreach ((new \ReflectionClass(BindException::class))->getConstants() as $name => $number) {
-        $of_forms = in_array($name, ['FORM_END', 'FORM_LENGTH_LEAD', 'FORM_TYPE', 'FORM_MIXED'], true);
-        same(!$of_forms, str_contains($page, "`$name`"), $name);
+        holds(str_contains($stub, " */\n    const $name = $number;\n"), $name);
+    }
+    foreach ((new \ReflectionClass(BindException::class))->getProperties() as $property) {
+        if ($property->isPublic()) {
+            holds(preg_match("# \\*/\n    public \\S+ \\$" . $property->getName() . ' = null;#', $stub) === 1, $property->getName());
+        }
     }
 });
 
-test('the page names each function and each field', function () use ($page) {
+test('the page names each function', function () use ($page) {
     foreach (get_defined_functions()['internal'] as $name) {
         if (preg_match('/^mysqlparams\\\\(?!bind_form)(.*)/', $name, $found)) {
             holds(preg_match("/`[^`]*\\b$found[1]\\b|\\b$found[1]\\(/", $page) === 1, $name);
         }
     }
-    foreach ((new \ReflectionClass(BindException::class))->getProperties() as $property) {
-        if ($property->isPublic() && $property->getName() !== 'byte') {
-            holds(str_contains($page, "`{$property->getName()}`"), $property->getName());
-        }
-    }
 });
 
-test('the page lists the keywords that are bound', function () {
-    $keywords = keywords(__DIR__ . '/../../../packages/php.md');
-    same(keywords(__DIR__ . '/../../README.md'), $keywords);
+test('the stub lists the keywords that are bound', function () {
+    $keywords = keywords(STUB, 'writes these alone');
+    same(keywords(__DIR__ . '/../../c/mysql_params.h', 'keywords that are written'), $keywords);
     foreach ($keywords as $word) {
         same("SELECT $word", bind('SELECT ?', [new Keyword($word, $keywords)]));
     }
