@@ -6,7 +6,6 @@ import unittest
 
 import mysql_params
 from mysql_params import bind
-from shared_cases import CASES
 from test_mysql_params import Result
 
 
@@ -41,10 +40,9 @@ class Test(unittest.TestCase):
         for query in ("SELECT 1", b"SELECT 1", bytearray(b"SELECT 1")):
             self.assertEqual(bind(query), b"SELECT 1")
 
-    def test_comments_of_the_page(self):
-        page = (CASES.parent.parent / "packages" / "python.md").read_text()
-        row = next(line for line in page.splitlines() if line.startswith("| `UnportableError`"))
-        refused, taken = (re.findall(r"`(/\*.*?\*/)`", part) for part in row.split("A quiet comment"))
+    def test_comments_of_the_documentation(self):
+        told = str(mysql_params.UnportableError.__doc__).split("A quiet comment")
+        refused, taken = (re.findall(r"``(/\*.*?\*/)``", part) for part in told)
         self.assertEqual((len(refused), len(taken)), (2, 1))
         for comment in refused:
             found = mysql_params.first_unportable(f"SELECT {comment} 1")

@@ -272,9 +272,11 @@ class BackslashError(Error):
 
 
 class UnportableError(Error):
-    """The query isn't portable: `construct` is the first, and begins at `position`.
+    """The query isn't portable: `construct` is the first, and begins at `position`. The message says what to write.
 
-    It is of bind_anywhere and bind_in_both_modes, and of the calls that send by a driver.
+    Servers read some constructs in different ways, like ``/*! :a */`` and ``/*!STRAIGHT_JOIN */``. A quiet comment, in which
+    nothing begins, is taken: ``/*!40001 SQL_NO_CACHE */``. It is of bind_anywhere and bind_in_both_modes, and of the calls
+    that send by a driver.
     """
 
     number = 16
