@@ -47,7 +47,33 @@ export class Keyword {
   readonly word: string
 }
 
-/** One value. A finite number that isn't whole is a DOUBLE; a `bigint` beyond 64 bits is an exact number. */
+/**
+ * One value. A finite number that isn't whole is a DOUBLE; a `bigint` beyond 64 bits is an exact number. Here are all values, also
+ * those of Fragment:
+ *
+ * | Value | Example | Written by `bind` |
+ * |---|---|---|
+ * | null | `null` | `NULL` |
+ * | a boolean | `true` | `1` |
+ * | a safe whole number | `-42` | `-42` |
+ * | another number: a DOUBLE | `1.5` | `1.5e0` |
+ * | a whole number as a DOUBLE | `new Double(2)` | `2.0e0` |
+ * | a whole number beyond 2^53 | `2 ** 53` | RangeError: give a `bigint` or a `Double` |
+ * | a bigint of 64 bits | `18446744073709551615n` | `18446744073709551615` |
+ * | one of up to 65 digits: exact | `2n ** 64n` | `18446744073709551616` |
+ * | an exact number, for money | `new Decimal('9.99')` | `9.99` |
+ * | NaN, infinities | `NaN` | BindError: give null |
+ * | a string | `"it's"` | `'it\'s'` |
+ * | with a lone surrogate | `'\ud800'` | TypeError |
+ * | a `Buffer`, `Uint8Array` of UTF-8 | `Buffer.from('x')` | `'x'` |
+ * | of other bytes | `Buffer.from([255, 0])` | `0xFF00` |
+ * | a list | `[1, 'a', null]` | `1, 'a', NULL` |
+ * | rows | `[[1, 'a'], [2, 'b']]` | `(1, 'a'), (2, 'b')` |
+ * | an empty list, rows of two lengths | `[]` | BindError |
+ * | undefined | `undefined` | TypeError: give null |
+ * | an object, a function | `{ password: 1 }` | TypeError: give `Assignments` or `JSON.stringify(..)` of it |
+ * | an invalid Date | `new Date(NaN)` | TypeError |
+ */
 export type Value = null | boolean | number | bigint | string | Uint8Array | Date | Double
 
 /** What may stand in a list or a row, and what a column may be set to. */
@@ -63,7 +89,7 @@ export type Fragment =
   | Assignments
   | Keyword
 
-/** Values in order, or by name. */
+/** Values in order, or by name: an array, the own properties of an object, or a Map. Values beyond the names are ignored. */
 export type Params<V = Fragment> = null | undefined | readonly V[] | { readonly [name: string]: V } | ReadonlyMap<string, V>
 
 export interface QueryOptions {
@@ -72,7 +98,10 @@ export interface QueryOptions {
 }
 
 export interface ZoneOptions {
-  /** The clock by which a `Date` is written: 'Z', 'local', or an offset as '+02:00'. Without it a `Date` is refused. */
+  /**
+   * The clock by which a `Date` is written: 'Z', 'local', or an offset as '+02:00'. Without it a `Date` is refused. Give that of
+   * the session's `@@time_zone`. An instant that the local clocks show twice is refused.
+   */
   timezone?: string
 }
 
@@ -80,24 +109,43 @@ export interface BindOptions extends QueryOptions, ZoneOptions {}
 
 /** The name of a refusal in mysql_params.h, or SESSION or PACKET of the calls that send. */
 export type Kind =
+  /** The form ends within a parameter. Only bindForm and those beside it take a form, and are refused by these four. */
   | 'FORM_END'
+  /** A length in the form begins with a wrong byte. */
   | 'FORM_LENGTH_LEAD'
+  /** A parameter of the form has a column type without a binary form. */
   | 'FORM_TYPE'
+  /** The form has parameters with and without a name. */
   | 'FORM_MIXED'
+  /** A name is given twice. */
   | 'FORM_REPEATED'
+  /** The query has names and marks. */
   | 'MIXED'
+  /** A name has no value: `placeName`. `word` is the whole word of `:größe`. */
   | 'MISSING'
+  /** Values with names, and the query has no names. */
   | 'NAMED_FOR_POSITIONAL'
+  /** Values without names, and the query has names. */
   | 'POSITIONAL_FOR_NAMED'
+  /** Not as many values as marks. */
   | 'MARK_COUNT'
+  /** A place could run into its neighbour, as in `1?`. */
   | 'NOT_ALONE'
+  /** NaN or an infinity: give null. By bindInBothModes each DOUBLE. */
   | 'FLOAT'
+  /** By bindAnywhere: a query that isn't ASCII without a backslash. Take bindInBothModes, or bind. */
   | 'UNSTEADY'
+  /** Servers read the query in different ways, as with an executable comment: the message says what to write. */
   | 'UNPORTABLE'
+  /** An empty list, no assignments, rows of two lengths, a wrong number, name or keyword: `fault`. */
   | 'FAULT'
+  /** By bindInBothModes: a backslash in a string of the query. Take bind. */
   | 'BACKSLASH'
+  /** By bindAnywhere: an Identifier that isn't ASCII without a backslash. Take bind. */
   | 'UNSTEADY_FRAGMENT'
+  /** The connection's `variable` isn't utf8mb4. */
   | 'SESSION'
+  /** The text is too long for the connection. */
   | 'PACKET'
 
 /** A refusal. Numbers of places, parameters and bytes begin at 0. A field that the kind doesn't tell is undefined. */
@@ -198,7 +246,12 @@ export interface SendOptions extends ZoneOptions {
   alwaysAsk?: boolean
 }
 
-/** Binds a query in the mode of a connection, and sends the text. It resolves to the driver's results and fields. */
+/**
+ * Binds a query in the mode of a connection, and sends the text. It resolves to the driver's results and fields.
+ *
+ * A connection is asked for its mode before its first text, and again after the driver has connected anew; one of `mysql` also
+ * after a `SET`, a `CALL` or `changeUser`. An unknown option is a TypeError.
+ */
 export function query(
   connection: Sender,
   query: string,

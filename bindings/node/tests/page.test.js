@@ -1,5 +1,6 @@
 'use strict'
-// The page of the package, packages/node.md: each program writes what the page says, and each row of its tables of texts is true.
+// The page of the package, packages/node.md, and what it sends its reader to: each program of the page and of examples/ writes what
+// stands beside it, and each row of the tables of texts is true, on the page and in index.d.ts.
 
 const assert = require('node:assert/strict')
 const { spawnSync } = require('node:child_process')
@@ -12,8 +13,15 @@ const { mysqlParams } = require('./shared_cases.js')
 const server = require('./server.js')
 
 const PAGE = fs.readFileSync(path.resolve(__dirname, '../../../packages/node.md'), 'utf8')
+const TYPES = fs.readFileSync(path.resolve(__dirname, '../index.d.ts'), 'utf8')
+const EXAMPLES = path.resolve(__dirname, '../examples')
 const BLOCKS = PAGE.matchAll(/^```js\n(.*?)^```\n\n```text\n(.*?)^```$/gms)
-const PROGRAMS = [...BLOCKS].map(([, program, text]) => ({ program, text }))
+const PROGRAMS = [...BLOCKS].map(([, program, text], i) => ({ name: `program ${i + 1} of the page`, program, text }))
+const ON_PAGE = PROGRAMS.length
+for (const file of fs.readdirSync(EXAMPLES).filter((file) => file.endsWith('.js'))) {
+  const read = (file) => fs.readFileSync(path.join(EXAMPLES, file), 'utf8')
+  PROGRAMS.push({ name: `examples/${file}`, program: read(file), text: read(file.replace(/js$/, 'text')) })
+}
 
 let driverWhy = null
 try {
@@ -55,13 +63,14 @@ function run() {
 }
 
 test('each block of JavaScript is a program with its text', () => {
-  assert.equal(PROGRAMS.length, [...PAGE.matchAll(/^```js$/gm)].length)
+  assert.equal(ON_PAGE, [...PAGE.matchAll(/^```js$/gm)].length)
+  assert.ok(ON_PAGE >= 3)
   assert.ok(PROGRAMS.length >= 6)
 })
 
-for (const [i, { program, text }] of PROGRAMS.entries()) {
+for (const [i, { name, program, text }] of PROGRAMS.entries()) {
   const skip = program.includes("require('mysql')") && why !== null ? why : false
-  test(`program ${i + 1} of the page`, { skip }, () => {
+  test(name, { skip }, () => {
     const file = path.join(folder, `${i}.${program.includes('import {') ? 'mjs' : 'cjs'}`)
     fs.writeFileSync(file, program)
     const { stdout, stderr } = spawnSync(process.execPath, [file], run())
@@ -71,8 +80,8 @@ for (const [i, { program, text }] of PROGRAMS.entries()) {
 }
 
 /** The cells of the rows of a table with this head, without the backquotes of a code. */
-function rowsOf(head) {
-  const [, rows] = new RegExp(`^${head.replaceAll('|', '\\|')}\\n\\|[-|]*\\n((?:\\|.*\\n)*)`, 'm').exec(PAGE)
+function rowsOf(head, text) {
+  const [, rows] = new RegExp(`^${head.replaceAll('|', '\\|')}\\n\\|[-|]*\\n((?:\\|.*\\n)*)`, 'm').exec(text)
   const plain = (cell) => cell.trim().replace(/^``(.*?) ?``$|^`(.*?)`$/, (found, one, other) => one ?? other)
   return rows.trim().split('\n').map((row) => row.split('|').slice(1, -1).map(plain))
 }
@@ -84,13 +93,13 @@ function valueOf(text) {
 }
 
 test('the table of what to write', () => {
-  const rows = rowsOf('| You want | Query | Values | Text |')
+  const rows = rowsOf('| You want | Query | Values | Text |', PAGE)
   assert.ok(rows.length >= 9)
   for (const [, query, values, text] of rows) assert.equal(mysqlParams.bind(query, valueOf(values)), text)
 })
 
 test('the table of values', () => {
-  const rows = rowsOf('| Value | Example | Written by `bind` |')
+  const rows = rowsOf('| Value | Example | Written by `bind` |', TYPES.replace(/^ \* ?/gm, ''))
   assert.ok(rows.length >= 20)
   for (const [, example, written] of rows) {
     const refused = /^(\w+Error)\b/.exec(written)
@@ -112,17 +121,17 @@ test('the examples within the text', () => {
   assert.equal(bind('lbl: LOOP'), 'lbl: LOOP')
   assert.equal(bind(':user_id, :userId, :ID, :id', { user_id: 1, userId: 2, ID: 3, id: 4 }), '1, 2, 3, 4')
   assert.equal(firstUnportable('SELECT /*! :a */ 1').construct, 'EXECUTABLE_COMMENT')
-  const head = /^The `UNSTEADY`/
-  assert.ok(!head.test(PAGE))
 })
 
-test('the kinds that are listed are those of the types', () => {
-  const types = fs.readFileSync(path.resolve(__dirname, '../index.d.ts'), 'utf8')
-  const [, listed] = /^export type Kind =\n((?: {2}\| '\w+'\n)*)/m.exec(types)
-  const kinds = [...listed.matchAll(/'(\w+)'/g)].map(([, kind]) => kind)
-  const onPage = rowsOf('| Kind | When |').flatMap(([cell]) => cell.match(/[A-Z_]{3,}/g))
-  // What refuses a form is told by the numbers of mysql_params.h.
-  assert.deepEqual(new Set(onPage), new Set(kinds.filter((kind) => !kind.startsWith('FORM_'))))
+test('the types say when each kind comes, and have those of the header', () => {
+  const [, listed] = /^export type Kind =\n((?: {2}.*\n)*)/m.exec(TYPES)
+  const told = [...listed.matchAll(/^ {2}\/\*\* \S.* \*\/\n {2}\| '(\w+)'\n/gm)].map(([, kind]) => kind)
+  assert.deepEqual(told, [...listed.matchAll(/'(\w+)'/g)].map(([, kind]) => kind))
+  const header = fs.readFileSync(path.resolve(__dirname, '../../c/mysql_params.h'), 'utf8')
+  const [, numbers] = /^enum mysql_params_number \{\n(.*?)^\};$/ms.exec(header)
+  const others = ['DONE', 'OUT_OF_MEMORY', 'ROOM', 'OTHER_TABLE']
+  const kinds = [...numbers.matchAll(/^ {4}MYSQL_PARAMS_(\w+) = /gm)].map(([, kind]) => kind).filter((kind) => !others.includes(kind))
+  assert.deepEqual(told, [...kinds, 'SESSION', 'PACKET'])
 })
 
 test('what node-mysql does there', { skip: driverWhy ?? false }, () => {
