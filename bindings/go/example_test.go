@@ -2,6 +2,7 @@ package mysqlparams_test
 
 import (
 	"database/sql"
+	"errors"
 	"fmt"
 	"mysqlparams"
 )
@@ -20,4 +21,55 @@ func Example() {
 func ExampleBindAnywhere() {
 	fmt.Println(mysqlparams.BindAnywhere("SELECT ?, ?", "it's", "é"))
 	// Output: SELECT _utf8mb4'it''s', _utf8mb4 0xC3A9 <nil>
+}
+
+// The table of a tenant, rows, an exact number and a float.
+func ExampleDecimal() {
+	rows := [][]any{{1, "a", mysqlparams.Decimal("9.99"), 0.5}, {2, "b", mysqlparams.Decimal("0.10"), nil}}
+	fmt.Println(mysqlparams.BindAnywhere("INSERT INTO ? VALUES ?", mysqlparams.Identifier{"shop", "item"}, rows))
+	// Output: INSERT INTO `shop`.`item` VALUES (1, _utf8mb4'a', 9.99, 0.5e0), (2, _utf8mb4'b', 0.10, NULL) <nil>
+}
+
+// A column that a user chose among yours, the columns of an INSERT, and a keyword of the program.
+func ExampleIdentifier() {
+	order, err := mysqlparams.KeywordAmong("DESC", "ASC", "DESC")
+	if err != nil {
+		panic(err)
+	}
+	fmt.Println(mysqlparams.BindAnywhere("SELECT * FROM t ORDER BY ? ?", mysqlparams.Identifier{"price"}, order))
+	fmt.Println(mysqlparams.BindAnywhere("INSERT INTO t (?) VALUES (1, 2)", []mysqlparams.Identifier{{"id"}, {"price"}}))
+	// Output:
+	// SELECT * FROM t ORDER BY `price` DESC <nil>
+	// INSERT INTO t (`id`, `price`) VALUES (1, 2) <nil>
+}
+
+// Columns, and what they are set to.
+func ExampleAssignments() {
+	changed := mysqlparams.Assignments{
+		{Column: mysqlparams.Identifier{"price"}, Value: 7},
+		{Column: mysqlparams.Identifier{"item", "name"}, Value: nil},
+	}
+	fmt.Println(mysqlparams.BindAnywhere("UPDATE item SET ? WHERE id = ?", changed, 42))
+	// Output: UPDATE item SET `price` = 7, `item`.`name` = NULL WHERE id = 42 <nil>
+}
+
+// Refusals: of a query, of an empty list, and of a value without a literal.
+func ExampleBindError() {
+	_, err := mysqlparams.BindAnywhere("SELECT :größe", 7)
+	var refused *mysqlparams.BindError
+	if errors.As(err, &refused) {
+		fmt.Println(refused.Code == mysqlparams.CodeUnsteady, refused.Position)
+	}
+	fmt.Println(err)
+
+	_, err = mysqlparams.BindAnywhere("SELECT * FROM t WHERE id IN (?)", []int{})
+	fmt.Println(err)
+
+	_, err = mysqlparams.BindAnywhere("SELECT * FROM t WHERE id = ?", map[string]any{"$ne": 1})
+	fmt.Println(err)
+	// Output:
+	// true 10
+	// Backslash or byte that is not ASCII at byte 10 of the query: over utf8mb4 bind_in_both_modes takes it, except a backslash in a string
+	// Fragment at place 0 can't be written: it is empty
+	// the value for place 0 is of type map[string]interface {}, which has no literal: for SET give Assignments, which have an order, else json.Marshal's bytes of it
 }
