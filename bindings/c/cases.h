@@ -1,4 +1,20 @@
-/* cases.h: the cases of bindings/cases, for the tests in C and C++. cases/README.md says what a case is. */
+/* cases.h: the cases of bindings/cases, for the tests in C and C++. cases/README.md says what a case is.
+ *
+ * A VALUE of a line `param NAME=VALUE` is, in all languages, one of these. Those from `d:` on are only in fragments.txt and
+ * fragments_anywhere.txt; their texts have no `|`.
+ * - `null`
+ * - `i:NUMBER`, `u:NUMBER`: a whole number, signed or unsigned
+ * - `s:TEXT`: bytes
+ * - `float:NUMBER`, `double:NUMBER`: 32 or 64 bits: a decimal number, `nan`, `inf`, `-inf`
+ * - `date:YEAR MONTH DAY HOUR MINUTE SECOND MICROSECOND`: a date
+ * - `time:SIGN DAYS HOURS MINUTES SECONDS MICROSECONDS`: a time; the sign is `-` or `+`
+ * - `d:DIGITS`: an exact number
+ * - `list:VALUE|VALUE..`: a list; `list:` is empty
+ * - `rows:VALUE|VALUE||VALUE..`: rows, with two bars between them
+ * - `identifier:TEXT`, `qualified:TEXT|TEXT`: a name; one in another
+ * - `identifiers:TEXT||TEXT|TEXT..`: names, single or in another; `identifiers:` is empty
+ * - `assignments:TEXT=VALUE||TEXT|TEXT=VALUE..`: columns and their items; `assignments:` is empty
+ * - `keyword:TEXT`: a keyword */
 #ifndef CASES_H
 #define CASES_H
 

@@ -14,12 +14,13 @@
 //   - nil, bool, which is 1 or 0, and whole numbers of each size;
 //   - float32 and float64, as the DOUBLE of this value; NaN and infinities are refused;
 //   - string and []byte, as a string, or in hexadecimal if the bytes aren't UTF-8; a nil []byte is NULL;
-//   - time.Time, as its own clock shows it, or that of Binder.Location, to the nearest microsecond;
+//   - time.Time, as its own clock shows it, or that of Binder.Location, to the nearest microsecond, in the years
+//     0 to 9999;
 //   - time.Duration, as a TIME;
 //   - *big.Int and Decimal, as exact numbers;
 //   - types whose kind is one of these, as `type Status int`;
 //   - a driver.Valuer, as the sql.Null types, by what its Value returns;
-//   - a slice, as a list for `IN (?)`; a slice of slices, as rows for `VALUES ?`;
+//   - a slice, as a list for `IN (?)`; a slice of slices, as rows for `VALUES ?`; an empty one is refused;
 //   - Identifier, and a slice of them, as the columns of an INSERT;
 //   - Assignments, for `SET ?`;
 //   - what Keyword and KeywordAmong return.

@@ -1,6 +1,6 @@
 /// <reference types="node" />
 
-// Values bound into SQL queries for MySQL and MariaDB. README.md is the page of the package.
+// Values bound into SQL queries for MySQL and MariaDB. README.md is the page of the package. Workers may call at once.
 
 /** An exact number of its digits, as `new Decimal('9.99')`: it is written bare, so that a server computes it exactly. */
 export class Decimal {

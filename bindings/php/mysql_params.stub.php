@@ -3,9 +3,9 @@
 /**
  * What the extension mysql_params has, for IDEs and for tools that read types. It is not loaded by a program.
  *
- * Parameters are a list, for `?`, or have names, for `:name`. A value is null, a bool, an int, a float, a string, a
- * DateTimeInterface, a DateInterval of a known length, or a case of an enum with values. Where a place takes more, it is also a
- * list of values, a list of lists as rows, a Decimal, an Identifier or a list of them, Assignments or a Keyword. Anything
+ * Parameters are a list, for `?`, or have names, for `:name`; a key may have its colon. A value is null, a bool, an int, a float, a
+ * string, a DateTimeInterface, a DateInterval of a known length, or a case of an enum with values. Where a place takes more, it is
+ * also a list of values, a list of lists as rows, a Decimal, an Identifier or a list of them, Assignments or a Keyword. Anything
  * else is a TypeError, which tells the place.
  *
  * A DateTimeInterface is written with its microseconds, in the years 1 to 9999. A DateInterval is hours, minutes and seconds with

@@ -15,6 +15,9 @@ quoted identifiers and comments. So `x:LOOP` is refused, and `x: LOOP` is sent a
 
 The archive is within the package's extension module, which the wheel has; `bindings/build FOLDER` makes the package with it
 in FOLDER/python. If the processor lacks a feature of x86-64-v2, the import is an ImportError.
+
+Threads may call at once. Other threads run while a call binds more than 64 KiB. The forked child of a process with threads
+may not call: have multiprocessing spawn.
 """
 
 from __future__ import annotations
@@ -132,8 +135,8 @@ Value = Union[
 """What a value may be, beside those of types that are registered, and the whole numbers and truth values of numpy.
 
 A NaN and an infinity are refused if the query has a place for them, by bind_in_both_modes each float. A float16 and a
-float32 of numpy are as the float of the same value. An Enum is bound as its value, a UUID as its text, a time of day as
-the span since midnight.
+float32 of numpy are as the float of the same value, so that a FLOAT column finds the 0.1 that it holds by a float32. An Enum
+is bound as its value, a UUID as its text, a time of day as the span since midnight. For a date of zeros give a text.
 """
 
 Params = Union[
