@@ -203,7 +203,7 @@ final class Decimal implements \Stringable
 }
 
 /**
- * The name of a table or a column, which may come from outside; `new Identifier('shop', 'item')` is one in another. A list of
+ * The name of a table or a column; `new Identifier('shop', 'item')` is one in another. A point in a name is a part of it. A list of
  * them is written with commas in between.
  */
 final class Identifier
