@@ -83,9 +83,10 @@ def executemany(
 
         mysql_params.executemany(cursor, "INSERT INTO t (id, name) VALUES (:id, :name)", rows)
 
-    Of an INSERT or a REPLACE whose VALUES are one row of places, the rows go out in few texts, as by execute_rows: as many rows in
-    each as max_allowed_packet takes, up to 16 MiB. Before VALUES stand only names, and behind the row only ON DUPLICATE KEY UPDATE
-    without places. Of another query each row's text is sent by itself. For each row's lastrowid take execute.
+    Of an INSERT or a REPLACE whose VALUES are one row of places, the rows go out in few texts, as by execute_rows: as many rows
+    in each as max_allowed_packet takes, up to 16 MiB. Before VALUES stand only names, and behind the row only ON DUPLICATE KEY
+    UPDATE without places. Of another query each row's text is sent by itself. The cursor's rowcount is the last text's; for
+    each row's lastrowid take execute.
 
     The query is parsed once for many rows, and the connection is asked before the first. All are bound before the first text
     is sent: if one is refused, nothing was sent, and the refusal's attribute `row` is its number from 0. Raise as execute.
@@ -253,7 +254,7 @@ def execute_rows(
 
     As many rows go into a text as are sure to fit into the server's max_allowed_packet, up to 16 MiB. Each text is a statement of
     its own: for all or none begin a transaction. All are bound before the first is sent: if one is refused, nothing was sent. No
-    rows send nothing.
+    rows send nothing. The cursor's rowcount is the last text's.
 
     Raise as execute, and ValueError for a query without just one place for the rows. A FragmentError's `in_row`, and the `row` of
     another refusal of a row, is the row's number from 0 among all.
