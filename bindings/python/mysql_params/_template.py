@@ -12,8 +12,9 @@ from . import _archive, _native
 class Template:
     """A query whose names and marks are found once, to bind it many times: it gives what bind gives.
 
-    It keeps a copy of the query, and nothing changes it, so that threads may bind it at once. bind and execute keep the tables of
-    the last 128 long queries, up to 8 MiB, by themselves; a template is for a query that shouldn't be asked for, or found to be another, each time.
+    It keeps a copy of the query, and nothing changes it, so that threads may bind it at once. bind and execute keep the places
+    of the last 128 queries of 4 KiB or more, up to 8 MiB in all, by themselves: for these a template spares only the look
+    for what is kept.
 
         >>> template = Template("SELECT * FROM t WHERE id = ?")
         >>> [template.bind([number]) for number in (1, 2)]
