@@ -320,6 +320,7 @@ enum Fault: int
     case ZeroByte = 6;
     case LongName = 7;
     case TrailingSpace = 8;
+    /** The word is none of those that the class Keyword lists. The message names C's header, which lists them too. */
     case Keyword = 9;
     case Backslash = 10;
 }
