@@ -644,7 +644,7 @@ static void names_of_long_queries(void)
         try_long_names(lengths[i]);
 }
 
-/* Appends the literal of one byte, after the table of SQL literals in docs/RULES.md. */
+/* Appends the literal of one byte, after "SQL literals" in docs/RULES.md. */
 static void append_literal(bytes *to, uint8_t byte)
 {
     static const uint8_t escapes[][2] = {{0, '0'}, {'\n', 'n'}, {'\r', 'r'}, {26, 'Z'}, {'\\', '\\'}, {'\'', '\''}, {'"', '"'}};

@@ -28,7 +28,7 @@ def literal_without_backslashes(byte):
 
 
 def literal(byte):
-    """Return the literal of one byte, after the table of SQL literals in docs/RULES.md."""
+    """Return the literal of one byte, after "SQL literals" in docs/RULES.md."""
     escapes = {0: b"0", 10: b"n", 13: b"r", 26: b"Z", 92: b"\\", 39: b"'", 34: b'"'}
     if byte >= 128:
         return b"0x%02X" % byte

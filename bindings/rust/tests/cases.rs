@@ -856,7 +856,7 @@ fn names_of_long_queries() {
     }
 }
 
-/// The literal of one byte, after the table of SQL literals in docs/RULES.md.
+/// The literal of one byte, after "SQL literals" in docs/RULES.md.
 fn literal(byte: u8) -> Vec<u8> {
     let escapes = [
         (0, b'0'),
