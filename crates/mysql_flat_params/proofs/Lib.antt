@@ -11,6 +11,7 @@ pub mod NamesSurveyLemmas
 pub mod NamesRoomLemmas
 pub mod OutcomeLemmas
 pub mod SteadyRoomLemmas
+pub mod AnywhereTableLemmas
 pub mod StringRoomLemmas
 pub mod RowsLemmas
 pub mod RowNamesLemmas

@@ -12,6 +12,7 @@ pub mod SteadyIntoRoom
 pub mod AnywhereIntoRoom
 pub mod BothModesIntoRoom
 pub mod WideSteadyIntoRoom
+pub mod AnywhereTable
 pub mod Steadiness
 pub mod BoundRows
 pub mod RowInRoom

@@ -127,6 +127,11 @@ abbrev pub report_of : TableOutcome → Report
 report_of (AsQuery outcome) = outcomes.report_of outcome
 report_of OtherTable = no_fields
 
+-- this holds of the outcome, unless the table is refused
+abbrev pub IfAsQuery : TableOutcome → (Outcome → Type 0) → Type 0
+IfAsQuery (AsQuery outcome) P = P outcome
+IfAsQuery OtherTable P = ⊤
+
 -- if the text is written, this holds of its length
 abbrev pub IfDone : TableOutcome → (ℕ → Type 0) → Type 0
 IfDone (AsQuery outcome) P = outcomes.IfDone outcome P

@@ -13,7 +13,7 @@ ghost use Rattle.mysql_flat_params.specs.FlatForm.{HasFirstParameter, IsFormRead
 ghost use Rattle.mysql_flat_params.specs.FormParams.{given_in_place};
 ghost use Rattle.mysql_flat_params.specs.IntoRoom.{IfMixed, IfMixedIn, IsBoundForm, IsBoundFormIn, MissesOtherNameIn};
 ghost use Rattle.mysql_flat_params.specs.Outcomes as outcomes;
-ghost use Rattle.mysql_flat_params.specs.PlaceTable.{CanHaveTable, CanHaveTableIn, HasOwnTable, HasOwnTableIn, IfDone, IfTooLong, IsMadeTable, IsMadeTableIn, IsTableBindOutcome, IsTableBindOutcomeIn, IsTableOutcome, IsTableOutcomeIn, MissesOtherPlace, MissesOtherPlaceIn, UnlessDone, number_of, report_of, survey_of};
+ghost use Rattle.mysql_flat_params.specs.PlaceTable.{CanHaveTable, CanHaveTableIn, HasOwnTable, HasOwnTableIn, IfAsQuery, IfDone, IfTooLong, IsMadeTable, IsMadeTableIn, IsTableBindOutcome, IsTableBindOutcomeIn, IsTableOutcome, IsTableOutcomeIn, MissesOtherPlace, MissesOtherPlaceIn, UnlessDone, number_of, report_of, survey_of};
 
 use crate::form::form_params;
 use crate::form_names::NamesInPlace;
@@ -187,7 +187,7 @@ fn head_of(survey: Survey) -> TableHead
 }
 
 // The survey in the head of a table.
-fn survey_of(head: TableHead) -> Survey
+pub(crate) fn survey_of(head: TableHead) -> Survey
     ensures { result ≡ survey_of head }
 {
     let not_alone = if head.not_alone == 0 {
@@ -344,7 +344,7 @@ fn bind_places(
 
 // The outcome for an error of binding by a table. If the missing name isn't one of the query, the
 // table is that of another query.
-fn table_outcome(query: &[u8], error: BindError, reading: Reading) -> TableOutcome
+pub(crate) fn table_outcome(query: &[u8], error: BindError, reading: Reading) -> TableOutcome
     ensures outcome { (form : List ℕ) (given : Given) → IsFormReading form (Ok given) →
         OnTokensIn reading query.now (λ ts.
         IsCauseOrMemory (first_cause ts given) error) →
@@ -352,6 +352,7 @@ fn table_outcome(query: &[u8], error: BindError, reading: Reading) -> TableOutco
     ensures other { result ≡ TableOutcome.OtherTable →
         MissesOtherNameIn reading query.now error }
     ensures mixed { error ≡ BindError.Mixed → result ≡ TableOutcome.AsQuery Outcome.Mixed }
+    ensures no_answer { IfAsQuery result outcomes.HasNoAnswer }
     ensures not_done { IfDone result (λ len. ⊥) }
     ensures not_too_long { IfTooLong result (λ len. ⊥) }
 {

@@ -54,7 +54,7 @@ const IN_BOTH_MODES: SteadyCall = SteadyCall {
     wide_names: false,
 };
 
-const WIDE_ANYWHERE: SteadyCall = SteadyCall {
+pub(crate) const WIDE_ANYWHERE: SteadyCall = SteadyCall {
     steadiness: Steadiness::Anywhere,
     wide_names: true,
 };

@@ -4,6 +4,8 @@
 #[cfg(test)]
 mod anywhere;
 #[cfg(test)]
+mod anywhere_tables;
+#[cfg(test)]
 mod both_modes;
 #[cfg(test)]
 mod forms;

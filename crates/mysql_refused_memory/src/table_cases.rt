@@ -2,8 +2,9 @@
 use crate::outcome::Memory::{Asked, Never};
 use crate::outcome::{Case, Memory, Outcome, cases, row};
 use mysql_flat_params::{
-    Outcome as Told, PlaceSpan, ReadTemplate, Reading, TableHead, TableOutcome, Template,
-    bind_by_table_into, bind_by_table_into_read, table_into, table_into_read,
+    AnywhereTemplate, Outcome as Told, PlaceSpan, ReadTemplate, Reading, TableHead, TableOutcome,
+    Template, bind_by_table_into, bind_by_table_into_read, bind_wide_anywhere_by_table_into,
+    table_into, table_into_read, wide_anywhere_table_into,
 };
 use std::alloc::Global;
 
@@ -15,8 +16,14 @@ pub(crate) fn case(alloc: Global, name: &str) -> Option<Case> {
     if let Some((row, reading)) = row(WIDE_MADE, name) {
         return Some(Ok(made(alloc, row, Some(reading))));
     }
+    if let Some(row) = row(ANYWHERE_MADE, name) {
+        return Some(Ok(made_anywhere(alloc, row)));
+    }
     if let Some(row) = row(BOUND, name) {
         return Some(Ok(bound(alloc, row)));
+    }
+    if let Some(row) = row(ANYWHERE_BOUND, name) {
+        return Some(Ok(bound_anywhere(alloc, row)));
     }
     Some(Ok(bound_by_wide_names(alloc, row(WIDE_BOUND, name)?)))
 }
@@ -77,13 +84,46 @@ fn made(
         None => table_into(alloc, query, false, &mut head, &mut room),
         Some(reading) => table_into_read(alloc, query, reading, &mut head, &mut room),
     };
+    made_in_room(told, head, room, (wanted, places)).with(memory)
+}
+
+/// How a call went that may write head and room.
+fn made_in_room(
+    told: Told,
+    head: TableHead,
+    room: [PlaceSpan; 2],
+    (wanted, places): (Told, &[PlaceSpan]),
+) -> Outcome {
     let is_untouched = room == [NO_PLACE; 2];
     match told {
         Told::OutOfMemory => Outcome::Memory.if_holds(is_untouched && head == NO_HEAD),
         Told::Done { .. } => Outcome::Answer.if_holds(told == wanted && room.starts_with(places)),
         _ => Outcome::Refusal.if_holds(told == wanted && is_untouched && head == NO_HEAD),
     }
-    .with(memory)
+}
+
+/// The same of a query for any mode and any server. One with a capital in a name is copied, unless
+/// one walk finds that nothing in it is in doubt.
+const ANYWHERE_MADE: &[(&str, MadeRow)] = cases! {
+    "wide_anywhere_table_into of names" =>
+        b":Ab,:b", Told::Done { len: 2 }, WIDE_PLACES, Asked;
+    "wide_anywhere_table_into of a query that is copied" =>
+        b"SELECT /*+ MAX_EXECUTION_TIME(9) */ :A", Told::Done { len: 1 },
+        &[PlaceSpan { before: 36, len: 2, }], Asked;
+    "wide_anywhere_table_into of nothing" => b"':A'", Told::Done { len: 0 }, &[], Never;
+    "wide_anywhere_table_into of a backslash" =>
+        b":A '\\'", Told::Unsteady { position: 4 }, &[], Never;
+    "wide_anywhere_table_into of a hint" => b"SELECT /*+ SET_VAR(x=:A) */ 1",
+        Told::Unportable { number: 2, position: 7, }, &[], Asked;
+    "wide_anywhere_table_into of a room that is too short" =>
+        b":A,:A,:A", Told::Room { len: 3 }, &[], Never;
+};
+
+fn made_anywhere(alloc: Global, (query, wanted, places, memory): MadeRow) -> Outcome {
+    let mut head = NO_HEAD;
+    let mut room = [NO_PLACE; 2];
+    let told = wide_anywhere_table_into(alloc, query, &mut head, &mut room);
+    made_in_room(told, head, room, (wanted, places)).with(memory)
 }
 
 /// A caller's room, before a call.
@@ -184,6 +224,36 @@ fn bound_by_wide_names(alloc: Global, (reading, places, form, wanted, memory): W
         places,
     };
     let told = bind_by_table_into_read(alloc, &template, form, &mut room);
+    bound_in_room(told, &room, wanted).with(memory)
+}
+
+/// The places of a table, a form, the text or what is told, and whether the call asks for memory.
+type AnywhereRow = (
+    &'static [PlaceSpan],
+    &'static [u8],
+    Result<&'static [u8], TableOutcome>,
+    Memory,
+);
+
+const ANYWHERE_BOUND: &[(&str, AnywhereRow)] = cases! {
+    "bind_wide_anywhere_by_table_into of names" =>
+        WIDE_PLACES, WIDE_FORM, Ok(b"_utf8mb4'it''s',NULL"), Asked;
+    "bind_wide_anywhere_by_table_into of another table" =>
+        ONE_PLACE, WIDE_FORM, Err(TableOutcome::OtherTable), Never;
+    "bind_wide_anywhere_by_table_into of a cut form" => WIDE_PLACES, b"\x02",
+        Err(TableOutcome::AsQuery(Told::FormEnd { place: 0, position: 0, })), Never;
+    "bind_wide_anywhere_by_table_into of a missing name" => WIDE_PLACES, ONLY_AB,
+        Err(TableOutcome::AsQuery(Told::Missing { place: 1, position: 5, len: 1, })), Asked;
+};
+
+fn bound_anywhere(alloc: Global, (places, form, wanted, memory): AnywhereRow) -> Outcome {
+    let mut room = *ROOM;
+    let template = AnywhereTemplate {
+        query: b":Ab,:b",
+        head: HEAD,
+        places,
+    };
+    let told = bind_wide_anywhere_by_table_into(alloc, &template, form, &mut room);
     bound_in_room(told, &room, wanted).with(memory)
 }
 

@@ -1,0 +1,76 @@
+-- Binding for any mode and any server by a table.
+use Rattle.std.specs.Prelude.{true, Some, ⊤}
+use Rattle.std.proofs.Common.{◌≡◌, ◌∙◌, ℕ, List, [], ap, arith, sym}
+use Rattle.std.proofs.lemmas.List.{nil_from_length}
+use Rattle.mysql_named_params.specs.LoweredNames.{have_capitals, lower_names}
+use Rattle.mysql_named_params.specs.Places.{names, place_count}
+use Rattle.mysql_named_params.proofs.TokenRowLemmas.{place_count-sum}
+use Rattle.mysql_named_params.specs.Reading.{wide_reading}
+use Rattle.mysql_named_params.specs.Tokens.{Token}
+use Rattle.mysql_portable.specs.FirstUnportable.{first_unportable}
+use Rattle.mysql_portable.specs.Steady.{first_unsteady}
+use Rattle.mysql_portable.proofs.SteadyLemmas.{none_unsteady}
+use Rattle.mysql_steady_text.proofs.BothModesAnswerLemmas.{Agree}
+use Rattle.mysql_flat_params.specs.AnywhereTable.{IsAnywhereBindOutcome, IsAnywhereTableOutcome, IsMadeAnywhereTable, IsRefusedAnywhere, IsTakenAnywhere}
+use Rattle.mysql_flat_params.specs.Outcomes as outcomes
+use Rattle.mysql_flat_params.specs.PlaceTable.{IfAsQuery, IsMadeTableIn, IsTableBindOutcomeIn, IsTableOutcomeIn}
+use Rattle.mysql_flat_params.specs.Steadiness.{IsBoundAs, refusal_as}
+use Rattle.mysql_flat_params.specs.WideSteadyIntoRoom.{wide_anywhere_refusal}
+use Rattle.mysql_flat_params.specs.declared.steady_room.Steadiness.TheVariants.{Anywhere}
+use Rattle.mysql_flat_params.specs.declared.outcome.Outcome.{Outcome}
+use Rattle.mysql_flat_params.specs.declared.outcome.Outcome.TheVariants as variant
+use Rattle.mysql_binding.specs.declared.binding.spans.PlaceSpan.{PlaceSpan}
+use Rattle.mysql_flat_params.specs.declared.place_table.TableHead.{TableHead}
+use Rattle.mysql_flat_params.specs.declared.place_table.TableOutcome.{TableOutcome}
+use Rattle.mysql_flat_params.specs.declared.place_table.TableOutcome.TheVariants.{AsQuery, OtherTable}
+use Rattle.mysql_flat_params.proofs.SteadyOutcomeLemmas.{cause_told, told_first}
+use Rattle.mysql_flat_params.proofs.SteadyRoomLemmas.{agree_without_unsteady, none_told}
+
+-- the modes agree on a query that is taken
+pub taken_agree : (query : List ℕ) → IsTakenAnywhere query → Agree query
+taken_agree query taken =
+    let o = taken true in
+    agree_without_unsteady query ((none_unsteady query).0 (none_told variant.Unsteady (first_unsteady query) (first_unportable (lower_names o.0)) o.2).0)
+
+-- the outcome for an error of binding by its own table
+pub anywhere_cause : (query form : List ℕ) → IsTakenAnywhere query → (outcome : TableOutcome) → IfAsQuery outcome outcomes.HasNoAnswer →
+    IsTableBindOutcomeIn (wide_reading true) query form outcome → IsAnywhereBindOutcome query form outcome
+anywhere_cause query form taken (AsQuery outcome) no_answer is =
+    cause_told true (IsBoundAs true Anywhere query) (refusal_as true Anywhere query) query form (taken_agree query taken) taken outcome no_answer is
+anywhere_cause query form taken OtherTable no_answer is = is
+
+-- the outcome of making the table of a query that is taken
+pub table_made_anywhere : (query : List ℕ) → IsTakenAnywhere query → (outcome : Outcome) → IsTableOutcomeIn (wide_reading true) query outcome →
+    IsAnywhereTableOutcome query outcome
+table_made_anywhere query taken (variant.Done len) is = (taken, is)
+table_made_anywhere query taken (variant.Room len) is = (taken, is)
+table_made_anywhere query taken variant.OutOfMemory is = is
+table_made_anywhere query taken outcome is = absurd is
+
+-- a query with a capital in a name has a place
+pub capital_in_place : (ts : List Token) → have_capitals (names ts) ≡ true → place_count ts ≡ 0 → ⊥
+capital_in_place ts capital none =
+    let no_names : names ts ≡ [] = nil_from_length (names ts) (omega (arith, none, place_count-sum ts)) in
+    let never : have_capitals [] ≡ true = sym (ap have_capitals no_names) ∙ capital in
+    cc
+
+-- .. and the table itself
+pub made_anywhere : (query : List ℕ) → IsTakenAnywhere query → (head : TableHead) (old new : List PlaceSpan) (outcome : Outcome) →
+    outcomes.IfDone outcome (IsMadeTableIn (wide_reading true) query head old new) → outcomes.IfDone outcome (IsMadeAnywhereTable query head old new)
+made_anywhere query taken head old new (variant.Done len) (fits, made, rest) = (fits, (taken, made), rest)
+made_anywhere query taken head old new outcome made = tt
+
+-- the outcomes for a query that is refused on its own
+abbrev pub IsAnywhereRefusal : Outcome → Type 0
+IsAnywhereRefusal (variant.Unsteady position) = ⊤
+IsAnywhereRefusal (variant.Unportable number position) = ⊤
+IsAnywhereRefusal outcome = ⊥
+
+pub is_anywhere_refusal : (query : List ℕ) (ts : List Token) (outcome : Outcome) → wide_anywhere_refusal query ts ≡ Some outcome → IsAnywhereRefusal outcome
+is_anywhere_refusal query ts outcome e =
+    told_first IsAnywhereRefusal variant.Unsteady (λ at. tt) (λ found. tt) (first_unsteady query) (first_unportable (lower_names ts)) outcome e
+
+pub refused_anywhere : (query : List ℕ) (outcome : Outcome) → IsAnywhereRefusal outcome → IsRefusedAnywhere query outcome → IsAnywhereTableOutcome query outcome
+refused_anywhere query (variant.Unsteady position) is told = told
+refused_anywhere query (variant.Unportable number position) is told = told
+refused_anywhere query outcome is told = absurd is
