@@ -567,9 +567,9 @@ std::vector<std::string> bind_rows(std::string_view query, const Rows &rows, Mod
     return detail::bound_rows(query, rows, mode == Mode::no_backslash_escapes);
 }
 
-/* A query whose places are found once, to bind it many times: it gives what bind gives, without a walk of the query. It
- * owns a copy of the query, and binding it changes nothing, so that many threads may do so at once. It is moved, not
- * copied; to bind what was moved from throws std::logic_error. */
+/* A query whose places are found once, to bind it many times: it gives what bind gives, or bind_anywhere, without a walk of
+ * the query. It owns a copy of the query, and binding it changes nothing, so that many threads may do so at once. It is
+ * moved, not copied; to bind what was moved from throws std::logic_error. */
 class Template {
 public:
     /* Throws std::bad_alloc. A query that can't be bound is refused when it is bound. */
@@ -584,6 +584,15 @@ public:
         const mysql_params_form &flat = form.get();
         return detail::bound(query(), flat, [&](std::uint8_t *room, std::size_t room_len, mysql_params_report *report) {
             return mysql_params_template_bind(made_.get(), flat.room, flat.len, room, room_len, report);
+        });
+    }
+    /* What bind_anywhere gives for the query, whatever the template's mode. A query that it takes is tested once, for all
+     * calls. Throws Error. */
+    std::string bind_anywhere(const Form &form = {}) const
+    {
+        const mysql_params_form &flat = form.get();
+        return detail::bound(query(), flat, [&](std::uint8_t *room, std::size_t room_len, mysql_params_report *report) {
+            return mysql_params_template_bind_anywhere(made_.get(), flat.room, flat.len, room, room_len, report);
         });
     }
     /* What bind_rows gives for the query in its mode. That finds the places once for all rows by itself, and not by the

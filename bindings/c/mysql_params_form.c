@@ -971,13 +971,16 @@ int32_t mysql_params_bind_fragments_anywhere_form_wide(const uint8_t *query, siz
     return bind_into_memory(bind_wide_in_no_mode, query, query_len, form, false, text, report);
 }
 
-/* A query and its table, in one block: the places and the query's bytes follow the fields. */
+/* A query and its tables, in one block: the places of both and the query's bytes follow the fields. */
 struct mysql_params_template {
     mysql_params_table_head head;
-    size_t places_len;
+    mysql_params_anywhere_head anywhere;
+    size_t places_len;   /* of the first table */
+    size_t anywhere_len; /* room for those of the second, which has as many: none without wide names */
     size_t query_len;
     bool no_backslash_escape;
     bool wide_names;
+    bool is_anywhere; /* the second table was made: mysql_params_bind_anywhere_wide binds the query */
 };
 
 /* Returns the places of a template, which stand after its fields. */
@@ -987,10 +990,16 @@ static const mysql_params_place *places_of(const mysql_params_template *made)
     return (const mysql_params_place *)after;
 }
 
+/* Returns the places of its second table, which stand after these. */
+static const mysql_params_place *anywhere_places_of(const mysql_params_template *made)
+{
+    return places_of(made) + made->places_len;
+}
+
 /* Returns the query of a template, which stands after its places. */
 static const uint8_t *query_of(const mysql_params_template *made)
 {
-    const void *after = places_of(made) + made->places_len;
+    const void *after = anywhere_places_of(made) + made->anywhere_len;
     return (const uint8_t *)after;
 }
 
@@ -1012,25 +1021,32 @@ static mysql_params_template *new_template(table_call *table, const uint8_t *que
         places_len = report.len;
     else if (number != MYSQL_PARAMS_DONE)
         return NULL;
-    if (places_len > PTRDIFF_MAX / sizeof(mysql_params_place))
+    if (places_len > PTRDIFF_MAX / (2 * sizeof(mysql_params_place)))
         return NULL;
-    size_t len = sum(sum(sizeof(mysql_params_template), query_len), places_len * sizeof(mysql_params_place));
+    size_t anywhere_len = wide_names ? places_len : 0;
+    size_t len = sum(sum(sizeof(mysql_params_template), query_len), (places_len + anywhere_len) * sizeof(mysql_params_place));
     mysql_params_template *made = len > PTRDIFF_MAX ? NULL : (mysql_params_template *)malloc(len);
     if (made == NULL)
         return NULL;
     memset(made, 0, len);
     made->places_len = places_len;
+    made->anywhere_len = anywhere_len;
     made->query_len = query_len;
     made->no_backslash_escape = no_backslash_escape;
     made->wide_names = wide_names;
     void *places = made + 1;
-    void *copy = (mysql_params_place *)places + places_len;
+    void *copy = (mysql_params_place *)places + places_len + anywhere_len;
     memcpy(copy, query, query_len);
     if (table((uint8_t *)copy, query_len, no_backslash_escape, &made->head, (mysql_params_place *)places, places_len,
-              &report) == MYSQL_PARAMS_DONE)
-        return made;
-    free(made);
-    return NULL;
+              &report) != MYSQL_PARAMS_DONE) {
+        free(made);
+        return NULL;
+    }
+    /* A query that is one for any mode has as many places in each. Without memory for the test there is no second table. */
+    made->is_anywhere = wide_names && mysql_params_table_anywhere_wide((uint8_t *)copy, query_len, &made->anywhere,
+                                                                      (mysql_params_place *)places + places_len,
+                                                                      anywhere_len, &report) == MYSQL_PARAMS_DONE;
+    return made;
 }
 
 mysql_params_template *mysql_params_template_new(const uint8_t *query, size_t query_len, bool no_backslash_escape)
@@ -1063,6 +1079,18 @@ int32_t mysql_params_template_bind(const mysql_params_template *made, const uint
                                                report);
     return mysql_params_bind_template(query_of(made), made->query_len, &made->head, places_of(made), made->places_len,
                                       form, form_len, made->no_backslash_escape, room, room_len, report);
+}
+
+int32_t mysql_params_template_bind_anywhere(const mysql_params_template *made, const uint8_t *form, size_t form_len,
+                                            uint8_t *room, size_t room_len, mysql_params_report *report)
+{
+    const uint8_t *query = query_of(made);
+    if (made->is_anywhere)
+        return mysql_params_bind_template_anywhere_wide(query, made->query_len, &made->anywhere, anywhere_places_of(made),
+                                                        made->anywhere_len, form, form_len, room, room_len, report);
+    if (made->wide_names)
+        return mysql_params_bind_anywhere_wide(query, made->query_len, form, form_len, room, room_len, report);
+    return mysql_params_bind_anywhere(query, made->query_len, form, form_len, room, room_len, report);
 }
 
 /* Binds to a template, to which `query` points. */

@@ -199,6 +199,13 @@ const uint8_t *mysql_params_template_query(const mysql_params_template *made, si
 int32_t mysql_params_template_bind(const mysql_params_template *made, const uint8_t *form, size_t form_len,
                                    uint8_t *room, size_t room_len, mysql_params_report *report);
 
+/* Binds as mysql_params_bind_anywhere does to the template's query, in whatever mode the template was made. A query that
+ * mysql_params_template_new_wide found to be one for any mode and any server isn't tested again, nor walked except for
+ * MYSQL_PARAMS_MISSING. Any other is tested by each call: if it is refused, if mysql_params_template_new made the template,
+ * or if there was no memory for the test. */
+int32_t mysql_params_template_bind_anywhere(const mysql_params_template *made, const uint8_t *form, size_t form_len,
+                                            uint8_t *room, size_t room_len, mysql_params_report *report);
+
 /* Binds as mysql_params_bind_form does to the template's query. */
 int32_t mysql_params_template_bind_form(const mysql_params_template *made, const mysql_params_form *form, char **text,
                                         mysql_params_report *report);

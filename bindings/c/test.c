@@ -101,9 +101,19 @@ typedef struct outcome {
     size_t room_len;
 } outcome;
 
-/* The call to try: of names, of binding values, by a template or not, or fragments in a mode, or of binding for any server
- * or both modes. */
-static enum { NAMES, BIND, BIND_TEMPLATE, BIND_FRAGMENTS, BIND_ANYWHERE, BIND_IN_BOTH_MODES, BIND_FRAGMENTS_ANYWHERE } tried;
+/* The call to try: of names, of binding values, by a template or not, or fragments in a mode, or of binding for any server,
+ * by a table, a template or neither, or both modes. */
+static enum {
+    NAMES,
+    BIND,
+    BIND_TEMPLATE,
+    BIND_FRAGMENTS,
+    BIND_ANYWHERE,
+    BIND_ANYWHERE_BY_TABLE,
+    BIND_ANYWHERE_BY_TEMPLATE,
+    BIND_IN_BOTH_MODES,
+    BIND_FRAGMENTS_ANYWHERE
+} tried;
 
 /* The calls of the archive, by the names of the grammar or by wide ones. */
 typedef int32_t in_a_mode(const uint8_t *, size_t, const uint8_t *, size_t, bool, uint8_t *, size_t, mysql_params_report *);
@@ -162,6 +172,37 @@ static const calls *by = &by_grammar;
 /* How many allocations of a call succeed: all of them. */
 enum { ALL = -1 };
 
+/* The table of a query for any mode and any server, and the number with which it was made. */
+typedef struct anywhere_table {
+    int32_t number;
+    mysql_params_anywhere_head head;
+    mysql_params_place *places;
+    size_t places_len;
+} anywhere_table;
+
+/* Makes the table of a case's query, if such tables are tried. A query that gets none is refused for the same when it is
+ * bound, unless the form is refused before. */
+static anywhere_table anywhere_table_of(const test_case *it, const uint8_t *query)
+{
+    anywhere_table made = {MYSQL_PARAMS_DONE, {{0, 0, 0, 0, 0, 0}}, NULL, 0};
+    mysql_params_report report = {0};
+    if (tried != BIND_ANYWHERE_BY_TABLE)
+        return made;
+    made.places = malloc((it->query.len + 1) * sizeof(mysql_params_place));
+    if (made.places == NULL)
+        exit(2);
+    made.number = mysql_params_table_anywhere_wide(query, it->query.len, &made.head, made.places, it->query.len,
+                                                   &report);
+    bool of_form = MYSQL_PARAMS_FORM_END <= it->number && it->number <= MYSQL_PARAMS_FORM_REPEATED;
+    bool of_query = it->number == MYSQL_PARAMS_UNSTEADY || it->number == MYSQL_PARAMS_UNPORTABLE;
+    if (made.number == MYSQL_PARAMS_DONE)
+        expect(!of_query, it, "a table is made of a query that is refused");
+    else
+        expect(of_form || (made.number == it->number && same_report(&report, &it->report)), it, "another table is wanted");
+    made.places_len = made.number == MYSQL_PARAMS_DONE ? report.len : 0;
+    return made;
+}
+
 /* Calls with a room of a length, and refuses memory after some allocations. Checks that all memory is given back. */
 static outcome call(const test_case *it, size_t room_len, long allocations)
 {
@@ -174,16 +215,23 @@ static outcome call(const test_case *it, size_t room_len, long allocations)
     bool mode = it->no_backslash_escape;
     mysql_params_template *made = by->template_new(query, it->query.len, mode);
     /* It has a copy of the query. */
-    if (tried == BIND_TEMPLATE && it->query.len > 0)
+    if ((tried == BIND_TEMPLATE || tried == BIND_ANYWHERE_BY_TEMPLATE) && it->query.len > 0)
         memset(query, '?', it->query.len);
+    anywhere_table table = anywhere_table_of(it, query);
     long before = blocks;
     allocation_refused = false;
     allocations_left = allocations;
-    if (tried == BIND_TEMPLATE)
+    if (tried == BIND_ANYWHERE_BY_TABLE && table.number == MYSQL_PARAMS_DONE)
+        is.number = mysql_params_bind_template_anywhere_wide(query, it->query.len, &table.head, table.places,
+                                                             table.places_len, form, it->form.len, is.room, room_len,
+                                                             &is.report);
+    else if (tried == BIND_TEMPLATE)
         is.number = mysql_params_template_bind(made, form, it->form.len, is.room, room_len, &is.report);
+    else if (tried == BIND_ANYWHERE_BY_TEMPLATE)
+        is.number = mysql_params_template_bind_anywhere(made, form, it->form.len, is.room, room_len, &is.report);
     else if (tried == NAMES)
         is.number = by->names(query, it->query.len, mode, is.room, room_len, &is.report);
-    else if (tried == BIND_ANYWHERE)
+    else if (tried == BIND_ANYWHERE || tried == BIND_ANYWHERE_BY_TABLE)
         is.number = by->bind_anywhere(query, it->query.len, form, it->form.len, is.room, room_len, &is.report);
     else if (tried == BIND_IN_BOTH_MODES)
         is.number = by->bind_in_both_modes(query, it->query.len, form, it->form.len, is.room, room_len, &is.report);
@@ -196,6 +244,7 @@ static outcome call(const test_case *it, size_t room_len, long allocations)
     allocations_left = ALL;
     expect(blocks == before, it, "memory isn't given back");
     mysql_params_template_free(made);
+    free(table.places);
     free(query);
     free(form);
     return is;
@@ -284,6 +333,8 @@ static void templates(void)
     tried = BIND_TEMPLATE;
     each_of_all("bind.txt", try_rooms);
     each_of_all("forms.txt", try_rooms);
+    tried = BIND_ANYWHERE_BY_TEMPLATE;
+    each_of_all("anywhere.txt", try_rooms);
 }
 
 static void table_of_steady_binding(void)
@@ -480,12 +531,20 @@ static void other_constructs(void)
         expect(mysql_params_construct_message(others[i]) == NULL, &it, "a message of no construct");
 }
 
+/* By its table a query is bound for any server as without one. */
+static void steady_binding_by_tables(void)
+{
+    tried = BIND_ANYWHERE_BY_TABLE;
+    each_of_all("anywhere.txt", try_rooms);
+}
+
 /* The tables of cases by wide names. */
 static void wide_names(void)
 {
     by = &by_wide_names;
     table_of_binding();
     table_of_steady_binding();
+    steady_binding_by_tables();
     flat_forms();
     templates();
     table_of_fragments();
@@ -519,6 +578,67 @@ static void tables_by_wide_names(void)
                                              sizeof text - 1, &report);
     expect(number == MYSQL_PARAMS_DONE && report.len == sizeof text - 1, &it, "a text is wanted");
     expect(memcmp(room, text, sizeof text) == 0, &it, "another text is wanted");
+}
+
+/* A query that is bound for any mode and any server by its table. */
+static void anywhere_by_a_table(void)
+{
+    static const uint8_t query[] = "SELECT :userId, ':ID', :ID";
+    static const uint8_t form[] = {2, 'I', 'D', 253, 0, 4, 'i', 't', '\'', 's', 6, 'u', 's', 'e', 'r', 'I', 'd', 1, 0, 7};
+    static const char text[] = "SELECT 7, ':ID', _utf8mb4'it''s'";
+    static const mysql_params_anywhere_head wanted_head = {{2, 0, 0, 0, 0, 16}};
+    static const mysql_params_place wanted_places[] = {{7, 7}, {9, 3}};
+    static const uint8_t hint[] = "SELECT /*+ SET_VAR(x=?) */ 1";
+    mysql_params_anywhere_head head = {{9, 9, 9, 9, 9, 9}};
+    mysql_params_place places[] = {{9, 9}, {9, 9}};
+    mysql_params_report report = {9, 9, 9, 9, 9, 9};
+    uint8_t room[sizeof text] = {0};
+    test_case it = {0};
+    int32_t number = mysql_params_table_anywhere_wide(hint, sizeof hint - 1, &head, places, 2, &report);
+    expect(number == MYSQL_PARAMS_UNPORTABLE && report.position == 7, &it, "the hint is wanted");
+    expect(report.byte == MYSQL_PARAMS_HINT && head.table.names == 9 && places[0].len == 9, &it, "no table is wanted");
+    number = mysql_params_table_anywhere_wide(query, sizeof query - 1, &head, places, 2, &report);
+    expect(number == MYSQL_PARAMS_DONE && report.len == 2, &it, "the number of places is wanted");
+    expect(memcmp(&head, &wanted_head, sizeof head) == 0, &it, "another head is wanted");
+    expect(memcmp(places, wanted_places, sizeof places) == 0, &it, "other places are wanted");
+    number = mysql_params_bind_template_anywhere_wide(query, sizeof query - 1, &head, places, 2, form, sizeof form, room,
+                                                      sizeof text - 1, &report);
+    expect(number == MYSQL_PARAMS_DONE && report.len == sizeof text - 1, &it, "a text is wanted");
+    expect(memcmp(room, text, sizeof text) == 0, &it, "another text is wanted");
+    number = mysql_params_bind_template_anywhere_wide(query, sizeof query - 1, &head, places, 1, form, sizeof form, room,
+                                                      sizeof text - 1, &report);
+    expect(number == MYSQL_PARAMS_OTHER_TABLE && report.len == 0, &it, "another table is bound by");
+}
+
+/* A template that gets no memory for the test of its query is bound for any mode and any server too. */
+static void templates_without_a_test(void)
+{
+    static const uint8_t query[] = "SELECT /*+ MAX_EXECUTION_TIME(9) */ :ID";
+    static const uint8_t form[] = {2, 'I', 'D', 253, 0, 4, 'i', 't', '\'', 's'};
+    static const char text[] = "SELECT /*+ MAX_EXECUTION_TIME(9) */ _utf8mb4'it''s'";
+    test_case it = {0};
+    long before = blocks;
+    int untested = 0;
+    allocation_refused = true;
+    for (long allowed = 0; allocation_refused; allowed++) {
+        uint8_t room[sizeof text] = {0};
+        mysql_params_report report = {9, 9, 9, 9, 9, 9};
+        it.line = (int)allowed;
+        allocations_left = allowed;
+        allocation_refused = false;
+        mysql_params_template *made = mysql_params_template_new_wide(query, sizeof query - 1, false);
+        allocations_left = ALL;
+        expect(made != NULL || allocation_refused, &it, "a template is wanted");
+        if (made == NULL)
+            continue;
+        untested += allocation_refused;
+        int32_t number = mysql_params_template_bind_anywhere(made, form, sizeof form, room, sizeof text - 1, &report);
+        expect(number == MYSQL_PARAMS_DONE && report.len == sizeof text - 1, &it, "a text is wanted");
+        expect(memcmp(room, text, sizeof text) == 0, &it, "another text is wanted");
+        mysql_params_template_free(made);
+    }
+    expect(untested > 0, &it, "no template lacks the test");
+    expect(blocks == before, &it, "memory is kept");
 }
 
 /* Appends a byte, often. */
@@ -1446,6 +1566,8 @@ static void without_memory(void)
     each_of_all("fragments_anywhere.txt", try_without_memory);
     tried = BIND_ANYWHERE;
     each_of_all("anywhere.txt", try_without_memory);
+    tried = BIND_ANYWHERE_BY_TEMPLATE;
+    each_of_all("anywhere.txt", try_without_memory);
     tried = BIND_IN_BOTH_MODES;
     each_of_all("both_modes.txt", try_without_memory);
     tried = NAMES;
@@ -1457,6 +1579,8 @@ static void out_of_memory(void)
     without_memory();
     by = &by_wide_names;
     without_memory();
+    tried = BIND_ANYWHERE_BY_TABLE;
+    each_of_all("anywhere.txt", try_without_memory);
     by = &by_grammar;
     /* No text is written without any memory. */
     uint8_t form[] = {0, 0xFD, 0, 1, 'x'}, query[] = {'?'};
@@ -1508,6 +1632,8 @@ int main(int count, char **words)
     all &= passed("other_constructs", other_constructs);
     all &= passed("wide_names", wide_names);
     all &= passed("tables_by_wide_names", tables_by_wide_names);
+    all &= passed("anywhere_by_a_table", anywhere_by_a_table);
+    all &= passed("templates_without_a_test", templates_without_a_test);
     all &= passed("names_of_long_queries", names_of_long_queries);
     all &= passed("each_value_of_one_byte", each_value_of_one_byte);
     all &= passed("values_of_each_length", values_of_each_length);

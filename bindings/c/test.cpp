@@ -508,6 +508,8 @@ static void try_anywhere(const test_case *it)
 {
     const Form form = form_of(view(it->form));
     try_case(*it, [&] { return mysql_params::bind_anywhere(view(it->query), form); });
+    for (Mode mode : {Mode::backslash_escapes, Mode::no_backslash_escapes})
+        try_case(*it, [&] { return Template(view(it->query), mode).bind_anywhere(form); });
 }
 
 static void try_in_both_modes(const test_case *it)

@@ -103,6 +103,23 @@ int32_t mysql_params_bind_template_wide(const uint8_t *query, size_t query_len, 
     return answer(query, room, room_len, report);
 }
 
+/* No query gets such a table, so that all are bound by the calls above. */
+int32_t mysql_params_table_anywhere_wide(const uint8_t *query, size_t query_len, mysql_params_anywhere_head *head,
+                                         mysql_params_place *places, size_t places_len, mysql_params_report *report)
+{
+    (void)query, (void)query_len, (void)head, (void)places, (void)places_len, (void)report;
+    return MYSQL_PARAMS_UNPORTABLE;
+}
+
+int32_t mysql_params_bind_template_anywhere_wide(const uint8_t *query, size_t query_len,
+                                                 const mysql_params_anywhere_head *head, const mysql_params_place *places,
+                                                 size_t places_len, const uint8_t *form, size_t form_len, uint8_t *room,
+                                                 size_t room_len, mysql_params_report *report)
+{
+    (void)query_len, (void)head, (void)places, (void)places_len, (void)form, (void)form_len;
+    return answer(query, room, room_len, report);
+}
+
 #define FIRST(name)                                                                                                            \
     int32_t name(const uint8_t *query, size_t query_len, bool mode, mysql_params_report *report)                               \
     {                                                                                                                          \

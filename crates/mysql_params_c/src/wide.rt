@@ -1,5 +1,6 @@
 //! Exports for queries with wide names, which may have capitals.
 ghost use Rattle.std.specs.Prelude.{◌≡◌, ◌≢◌, ◌⊎◌, ◌↔◌, ◌+◌, ◌≤◌, ◌<◌, ℕ, Bool, false, true, [], Some, None, length, take, drop, pos, negsuc};
+ghost use Rattle.mysql_flat_params.specs.AnywhereTable.{IsAnywhereBindOutcome, IsAnywhereTableOf, IsAnywhereTableOutcome, IsMadeAnywhereTable};
 ghost use Rattle.mysql_flat_params.specs.BoundRows.{AreBoundRowsIn, IsRowsOutcomeIn};
 ghost use Rattle.mysql_flat_params.specs.FlatForm.{HasFirstParameter};
 ghost use Rattle.mysql_flat_params.specs.FragmentsAnywhereIntoRoom as anywhere_fragments;
@@ -22,10 +23,11 @@ ghost use Rattle.mysql_portable.specs.Steady.{first_unsteady};
 ghost use Rattle.mysql_steady_text.specs.FirstBackslash.{first_backslash};
 
 use mysql_flat_params::{
-    PlaceSpan, ReadTemplate, Reading, Report, Rows, TableHead, bind_by_table_into_read,
-    bind_fragments_into_read, bind_into_read, bind_rows_into_read, bind_wide_anywhere_into,
-    bind_wide_fragments_anywhere_into, bind_wide_in_both_modes_into, names_into_read,
-    report_first_unportable_in_client_wide, report_first_unportable_wide, table_into_read,
+    AnywhereTemplate, PlaceSpan, ReadTemplate, Reading, Report, Rows, TableHead,
+    bind_by_table_into_read, bind_fragments_into_read, bind_into_read, bind_rows_into_read,
+    bind_wide_anywhere_by_table_into, bind_wide_anywhere_into, bind_wide_fragments_anywhere_into,
+    bind_wide_in_both_modes_into, names_into_read, report_first_unportable_in_client_wide,
+    report_first_unportable_wide, table_into_read, wide_anywhere_table_into,
 };
 use std::alloc::Global;
 
@@ -297,6 +299,81 @@ pub extern "C" fn mysql_params_bind_anywhere_wide(
     ensures unchanged { result ≢ pos 0 → room.new ≡ room.old }
 {
     let outcome = bind_wide_anywhere_into(alloc, query, form, room);
+    *report = outcome.report();
+    outcome.number()
+}
+
+/// [`mysql_params_table_wide`] of a query that [`mysql_params_bind_anywhere_wide`] binds:
+/// [`wide_anywhere_table_into`](mysql_flat_params::wide_anywhere_table_into). Bind by the table
+/// with [`mysql_params_bind_template_anywhere_wide`].
+///
+/// Numbers, report, head and room are the same, except that 15 (`Unsteady`) and 16 (`Unportable`)
+/// come first, with the reports of [`mysql_params_bind_anywhere_wide`]. 1 (`OutOfMemory`) may come
+/// in place of 16 if a name has a capital.
+#[unsafe(no_mangle)]
+pub extern "C" fn mysql_params_table_anywhere_wide(
+    alloc: Global,
+    query: &[u8],
+    head: &mut TableHead,
+    room: &mut [PlaceSpan],
+    report: &mut Report,
+) -> i32
+    ensures outcome { IsTold result report.new (IsAnywhereTableOutcome query.now) }
+
+    // These are refused without allocating, the latter if no name has a capital.
+    ensures unsteady { (at : ℕ) → first_unsteady query.now ≡ Some at → result ≡ pos 15 }
+    ensures refused { (mode : Bool) → OnWideTokens mode query.now (λ ts.
+        have_capitals (names ts) ≡ false → (told : outcome.Outcome) →
+        wide_anywhere_refusal query.now ts ≡ Some told → result ≡ pos (number_of told)) }
+    ensures made { result ≡ pos 0 →
+        IsMadeAnywhereTable query.now head.new room.old room.new report.new.len }
+    ensures too_long { result ≡ pos 2 → length room.old < report.new.len }
+    ensures unchanged { result ≢ pos 0 → (head.new ≡ head.old) × (room.new ≡ room.old) }
+{
+    let outcome = wide_anywhere_table_into(alloc, query, head, room);
+    *report = outcome.report();
+    outcome.number()
+}
+
+/// [`mysql_params_bind_anywhere_wide`] by the table that [`mysql_params_table_anywhere_wide`] made
+/// of the query:
+/// [`bind_wide_anywhere_by_table_into`](mysql_flat_params::bind_wide_anywhere_by_table_into).
+///
+/// Numbers, report and room are the same. With any other table it does what
+/// [`mysql_params_bind_template_wide`] does with another.
+#[unsafe(no_mangle)]
+pub extern "C" fn mysql_params_bind_template_anywhere_wide(
+    alloc: Global,
+    query: &[u8],
+    head: &TableHead,
+    places: &[PlaceSpan],
+    form: &[u8],
+    room: &mut [u8],
+    report: &mut Report,
+) -> i32
+    ensures outcome { table.IsTold result report.new (λ told.
+        IsAnywhereTableOf head.now places.now query.now →
+        IsAnywhereBindOutcome query.now form.now told) }
+    ensures written { IsAnywhereTableOf head.now places.now query.now → result ≡ pos 0 →
+        IsWideAnywhereForm query.now form.now (take report.new.len room.new) }
+
+    // The empty form over a query with a name and a mark is refused without allocating.
+    ensures mixed { IsAnywhereTableOf head.now places.now query.now → form.now ≡ [] →
+        IfMixedIn (wide_reading true) query.now (result ≡ pos 8) }
+
+    // A form that is refused for its first parameter is refused without allocating.
+    ensures memory { result ≡ pos 1 → (form.now ≡ []) ⊎ HasFirstParameter form.now }
+    ensures rest { result ≡ pos 0 → (report.new.len ≤ length room.old)
+        × (drop report.new.len room.new ≡ drop report.new.len room.old) }
+    ensures too_long { result ≡ pos 2 → length room.old < report.new.len }
+    ensures unchanged { result ≢ pos 0 → room.new ≡ room.old }
+{
+    let template = AnywhereTemplate {
+        query,
+        head: *head,
+        places,
+    };
+    let outcome = bind_wide_anywhere_by_table_into(alloc, &template, form, room);
     *report = outcome.report();
     outcome.number()
 }
