@@ -17,13 +17,13 @@ type question struct {
 	call  call
 	mode  Mode
 	query string
-	table *Template // of callTemplate; of callAnywhere what is kept of the query, if it is portable
+	table *Template // of callTemplate; of callAnywhere what is kept of the query, if that has a table for it
 }
 
 // marked returns the question for values in the order of the places, without their names.
-func (q *question) marked() *question {
+func (q *question) marked() question {
 	marked := q.table.marked
-	return &question{call: q.call, mode: q.mode, query: marked.query, table: marked}
+	return question{call: q.call, mode: q.mode, query: marked.query, table: marked}
 }
 
 // call is a call of the archive.
@@ -101,6 +101,11 @@ func (r *room) ask(q *question) C.int32_t {
 	switch {
 	case q.call == callAnywhere && r.writer.fragments:
 		return C.mysql_params_bind_fragments_anywhere_wide(query, queryLen, form, formLen, text, textLen, &r.report)
+	case q.call == callAnywhere && q.table != nil:
+		table := q.table.anywhere
+		places, placesLen := placesAt(table.places)
+		return C.mysql_params_bind_template_anywhere_wide(query, queryLen, &table.head, places, placesLen, form,
+			formLen, text, textLen, &r.report)
 	case q.call == callAnywhere:
 		return C.mysql_params_bind_anywhere_wide(query, queryLen, form, formLen, text, textLen, &r.report)
 	case q.call == callBothModes:
@@ -108,7 +113,7 @@ func (r *room) ask(q *question) C.int32_t {
 	case r.writer.fragments:
 		return C.mysql_params_bind_fragments_wide(query, queryLen, form, formLen, mode, text, textLen, &r.report)
 	case q.call == callTemplate:
-		places, placesLen := q.table.placesAt()
+		places, placesLen := placesAt(q.table.places)
 		return C.mysql_params_bind_template_wide(query, queryLen, &q.table.head, places, placesLen, form,
 			formLen, mode,
 			text, textLen, &r.report)

@@ -37,8 +37,8 @@ func BindInBothModes(query string, args ...any) (string, error) {
 // BindAnywhere is the package's BindAnywhere with the options.
 func (b Binder) BindAnywhere(query string, args ...any) (string, error) {
 	q := &question{call: callAnywhere, query: query}
-	if kept := keptTemplate(BackslashEscapes, query); kept != nil && kept.portable {
-		q.table = kept // Without a backslash the query is the same in both modes. With one it is refused.
+	if kept := keptTemplate(BackslashEscapes, query); kept != nil && kept.anywhere != nil {
+		q.query, q.table = kept.query, kept
 	}
 	return b.bind(q, args)
 }
@@ -78,7 +78,8 @@ func (b Binder) bind(q *question, args []any) (string, error) {
 		if err := r.writer.inOrder(args); err != nil {
 			return "", err
 		}
-		if text, err := r.answer(q.marked()); err == nil {
+		marked := q.marked()
+		if text, err := r.answer(&marked); err == nil {
 			return text, nil
 		}
 		// The query with its names tells the refusal.

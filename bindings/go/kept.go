@@ -48,7 +48,8 @@ func keptTemplate(mode Mode, query string) *Template {
 	return found
 }
 
-// templateToKeep returns the template of a query, which is found to be portable or not; nil without memory.
+// templateToKeep returns the template of a query, which is found to be portable or not, and taken by BindAnywhere
+// or not; nil without memory.
 func templateToKeep(mode Mode, query string) *Template {
 	made, err := NewTemplate(mode, query)
 	if err != nil {
@@ -56,5 +57,8 @@ func templateToKeep(mode Mode, query string) *Template {
 	}
 	found, err := FirstUnportable(mode, query)
 	made.portable = found == nil && err == nil
+	if mode == BackslashEscapes { // BindAnywhere keeps its queries there.
+		made.findAnywhere()
+	}
 	return made
 }

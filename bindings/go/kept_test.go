@@ -45,6 +45,46 @@ func TestKeptQueries(t *testing.T) {
 	}
 }
 
+// TestKeptAnywhere has queries bound for any connection again and again: by values in the order of the places, in
+// another one, by fragments, and by too few values or too many; and queries that BindAnywhere refuses.
+func TestKeptAnywhere(t *testing.T) {
+	a, b := sql.Named("a", "it's"), sql.Named("B", "é")
+	for query, each := range map[string][]struct {
+		args   []any
+		wanted string
+	}{
+		"SELECT :a, '?:a', :B": {
+			{[]any{a, b}, "SELECT _utf8mb4'it''s', '?:a', _utf8mb4 0xC3A9"},
+			{[]any{b, a}, "SELECT _utf8mb4'it''s', '?:a', _utf8mb4 0xC3A9"},
+			{[]any{a, sql.Named("B", 0.5)}, "SELECT _utf8mb4'it''s', '?:a', 0.5e0"},
+			{[]any{b}, ""},
+		},
+		"SELECT ?": {{[]any{nil}, "SELECT NULL"}, {[]any{[]int{1, 2}}, "SELECT 1, 2"}, {[]any{1, 2}, ""}},
+		"SELECT 2": {{nil, "SELECT 2"}},
+	} {
+		for i := 0; i < 4; i++ {
+			for _, c := range each {
+				text, err := BindAnywhere(query, c.args...)
+				if text != c.wanted || (err != nil) != (c.wanted == "") {
+					t.Errorf("%s: %q, %v", query, text, err)
+				}
+			}
+		}
+		if found := keptTemplate(BackslashEscapes, query); found == nil || found.anywhere == nil {
+			t.Errorf("%s: no table is kept", query)
+		}
+	}
+	for i := 0; i < 4; i++ {
+		var found *BindError
+		if _, err := BindAnywhere("SELECT 'é', :a", a); !errors.As(err, &found) || found.Code != CodeUnsteady {
+			t.Errorf("%v", err)
+		}
+		if _, err := BindAnywhere("SELECT /*+ SET_VAR(x=:a) */ 1", a); !errors.As(err, &found) || found.Code != CodeUnportable {
+			t.Errorf("%v", err)
+		}
+	}
+}
+
 // TestModesOfKeptQueries has queries bound in both modes by turns, of which one has a place in one mode only.
 func TestModesOfKeptQueries(t *testing.T) {
 	value := sql.Named("a", `\`)
@@ -117,7 +157,12 @@ func TestManyKeptQueries(t *testing.T) {
 			for i := 0; i < 3*mostKept; i++ {
 				query := fmt.Sprintf("SELECT :a%d", i)
 				for j := 0; j < 3; j++ {
-					text, err := Bind(BackslashEscapes, query, sql.Named(fmt.Sprint("a", i), j))
+					value := sql.Named(fmt.Sprint("a", i), j)
+					text, err := Bind(BackslashEscapes, query, value)
+					if err != nil || text != fmt.Sprint("SELECT ", j) {
+						t.Errorf("%s: %q, %v", query, text, err)
+					}
+					text, err = BindAnywhere(query, value)
 					if err != nil || text != fmt.Sprint("SELECT ", j) {
 						t.Errorf("%s: %q, %v", query, text, err)
 					}

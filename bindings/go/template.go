@@ -7,12 +7,12 @@ import "C"
 
 import "database/sql"
 
-// placesAt returns where the places of a template stand.
-func (t *Template) placesAt() (*C.mysql_params_place, C.size_t) {
-	if len(t.places) == 0 {
+// placesAt returns where places stand.
+func placesAt(places []C.mysql_params_place) (*C.mysql_params_place, C.size_t) {
+	if len(places) == 0 {
 		return &noPlace, 0
 	}
-	return &t.places[0], C.size_t(len(t.places))
+	return &places[0], C.size_t(len(places))
 }
 
 var noPlace C.mysql_params_place
@@ -25,9 +25,16 @@ type Template struct {
 	mode     Mode
 	head     C.mysql_params_table_head
 	places   []C.mysql_params_place
-	names    []string  // those of the places, if each differs from the others
-	marked   *Template // of the query with `?` in their places; nil without them
-	portable bool      // of a kept one, whether the query is portable
+	names    []string       // those of the places, if each differs from the others
+	marked   *Template      // of the query with `?` in their places; nil without them
+	portable bool           // of a kept one, whether the query is portable
+	anywhere *anywhereTable // of a kept one, if BindAnywhere takes the query
+}
+
+// anywhereTable is the table of a query that BindAnywhere takes.
+type anywhereTable struct {
+	head   C.mysql_params_anywhere_head
+	places []C.mysql_params_place
 }
 
 // NewTemplate finds the places of a query in a mode. A query that can't be bound is refused when it is bound.
@@ -56,7 +63,7 @@ func (t *Template) find(r *room) error {
 		if tries > 0 {
 			t.places = make([]C.mysql_params_place, int(r.report.len))
 		}
-		places, placesLen := t.placesAt()
+		places, placesLen := placesAt(t.places)
 		number = C.mysql_params_table_wide(at, length, C.bool(t.mode), &t.head, places, placesLen, &r.report)
 	}
 	if number != C.MYSQL_PARAMS_DONE {
@@ -85,6 +92,32 @@ func (t *Template) mark(r *room) error {
 	}
 	t.names, t.marked = found.Names, marked
 	return nil
+}
+
+// findAnywhere finds the table for BindAnywhere: of the query with `?` too, by which values in their order are
+// bound. There is none if BindAnywhere refuses one of them, or without memory.
+func (t *Template) findAnywhere() {
+	r := rooms.Get().(*room)
+	defer r.giveBack()
+	t.anywhere = r.anywhereTableOf(t.query, len(t.places))
+	if t.anywhere == nil || t.marked == nil {
+		return
+	}
+	if t.marked.anywhere = r.anywhereTableOf(t.marked.query, len(t.places)); t.marked.anywhere == nil {
+		t.anywhere = nil
+	}
+}
+
+// anywhereTableOf returns the table of a query with so many places; nil if there is none.
+func (r *room) anywhereTableOf(query string, count int) *anywhereTable {
+	made := &anywhereTable{places: make([]C.mysql_params_place, count)}
+	at, length := bytesOf(query)
+	places, placesLen := placesAt(made.places)
+	number := C.mysql_params_table_anywhere_wide(at, length, &made.head, places, placesLen, &r.report)
+	if number != C.MYSQL_PARAMS_DONE {
+		return nil
+	}
+	return made
 }
 
 // isInOrder returns whether arguments are of the names of the places, in their order.

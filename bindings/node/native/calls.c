@@ -34,6 +34,8 @@ static int32_t ask(const question *q, uint8_t *room, size_t len, mysql_params_re
     case CALL_ANYWHERE:
         if (is_fragments)
             return mysql_params_bind_fragments_anywhere_wide(q->query, q->query_len, q->form, q->form_len, room, len, report);
+        if (q->made != NULL)
+            return mysql_params_template_bind_anywhere(q->made, q->form, q->form_len, room, len, report);
         return mysql_params_bind_anywhere_wide(q->query, q->query_len, q->form, q->form_len, room, len, report);
     case CALL_BOTH_MODES:
         return mysql_params_bind_in_both_modes_wide(q->query, q->query_len, q->form, q->form_len, room, len, report);
