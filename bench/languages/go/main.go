@@ -186,20 +186,54 @@ func ofSending(db *sql.DB) {
 	for _, one := range names {
 		named, values = append(named, sql.Named(one.name, one.value)), append(values, one.value)
 	}
-	ctx := context.Background()
-	sent := func(_ sql.Result, err error) string { return must("", err) }
 	table("12 values, sent", calls, []way{
+		{"db.ExecContext with interpolateParams", func() string { return sent(db.ExecContext(ctx, byMark, values...)) }},
+		{"ExecContext, by marks", func() string { return sent(mysqlparams.ExecContext(ctx, db, byMark, values...)) }},
+		{"ExecContext, by names", func() string { return sent(mysqlparams.ExecContext(ctx, db, byName, named...)) }},
+	})
+}
+
+var ctx = context.Background()
+
+// sent ends the program unless a text was sent.
+func sent(_ sql.Result, err error) string { return must("", err) }
+
+// ofSendingRows times the rows of two values sent over a pool: a text for each, and one text.
+func ofSendingRows(db *sql.DB) {
+	var rows [][]any
+	var all []any
+	for i := 0; i < rowCount; i++ {
+		rows = append(rows, []any{int64(i), fmt.Sprint("it's the row ", i)})
+		all = append(all, rows[i]...)
+	}
+	const query = "INSERT INTO t VALUES (?, ?)"
+	table("100,000 rows, a text each, sent", 1, []way{
 		{"db.ExecContext with interpolateParams", func() string {
-			return sent(db.ExecContext(ctx, byMark,
-				values...))
+			for _, row := range rows {
+				sent(db.ExecContext(ctx, query, row...))
+			}
+			return ""
 		}},
-		{"ExecContext, by marks", func() string {
-			return sent(mysqlparams.ExecContext(ctx, db, byMark,
-				values...))
+		{"ExecContext", func() string {
+			for _, row := range rows {
+				sent(mysqlparams.ExecContext(ctx, db, query, row...))
+			}
+			return ""
 		}},
-		{"ExecContext, by names", func() string {
-			return sent(mysqlparams.ExecContext(ctx, db, byName,
-				named...))
+		{"BindRows, and db.ExecContext", func() string {
+			texts, err := mysqlparams.BindRows(mysqlparams.BackslashEscapes, query, rows)
+			must("", err)
+			for _, text := range texts {
+				sent(db.ExecContext(ctx, text))
+			}
+			return ""
+		}},
+	})
+	marks := "INSERT INTO t VALUES " + strings.TrimSuffix(strings.Repeat("(?, ?), ", rowCount), ", ")
+	table("100,000 rows, one text, sent", 1, []way{
+		{"db.ExecContext with interpolateParams", func() string { return sent(db.ExecContext(ctx, marks, all...)) }},
+		{"ExecContext, for `VALUES ?`", func() string {
+			return sent(mysqlparams.ExecContext(ctx, db, "INSERT INTO t VALUES ?", rows))
 		}},
 	})
 }
@@ -210,4 +244,5 @@ func main() {
 	ofNames(own)
 	ofSending(db)
 	ofRows(own)
+	ofSendingRows(db)
 }
