@@ -3,7 +3,6 @@
 
 #include "Zend/zend_enum.h"
 #include "Zend/zend_exceptions.h"
-#include "Zend/zend_smart_str.h"
 #include "ext/spl/spl_exceptions.h"
 
 zend_class_entry *exception_ce, *construct_ce, *fault_ce, *unportable_ce;

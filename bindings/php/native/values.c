@@ -9,15 +9,16 @@
 
 #include <math.h>
 
-/* Appends a name as messages show it, from a byte on: one that isn't printable ASCII, `"` or `\` as `\x` and two digits. */
+/* Appends a name as messages show it, from a byte on: one that isn't printable ASCII, `"` or `\` as `\x` and two digits.
+ *
+ * Texts are made only by smart_str_append_printf, a function of PHP. What the header has inline calls functions that only
+ * PHP's later patches have, and then the module isn't loaded by an earlier one. */
 static void append_shown(smart_str *to, const zend_string *name, size_t begin)
 {
     for (size_t i = begin; i < ZSTR_LEN(name); i++) {
         uint8_t byte = (uint8_t)ZSTR_VAL(name)[i];
-        if (byte < 32 || byte > 126 || byte == '"' || byte == '\\')
-            smart_str_append_printf(to, "\\x%02x", byte);
-        else
-            smart_str_appendc(to, (char)byte);
+        bool is_shown = byte >= 32 && byte <= 126 && byte != '"' && byte != '\\';
+        smart_str_append_printf(to, is_shown ? "%c" : "\\x%02x", byte);
     }
 }
 
@@ -30,9 +31,9 @@ static zend_string *place_of(const writer *writer)
     if (writer->name == NULL) {
         smart_str_append_printf(&place, "the value for place " ZEND_LONG_FMT, writer->number);
     } else {
-        smart_str_appends(&place, "the value of `:");
+        smart_str_append_printf(&place, "the value of `:");
         append_shown(&place, writer->name, ZSTR_LEN(writer->name) > 0 && ZSTR_VAL(writer->name)[0] == ':');
-        smart_str_appendc(&place, '`');
+        smart_str_append_printf(&place, "`");
     }
     return smart_str_extract(&place);
 }
@@ -260,9 +261,9 @@ static bool refuse_assigned(const writer *writer, HashTable *names, const zval *
     smart_str column = {0};
     zval *name;
     ZEND_HASH_FOREACH_VAL(names, name) {
-        smart_str_appends(&column, column.s == NULL ? "`" : ".`");
+        smart_str_append_printf(&column, column.s == NULL ? "`" : ".`");
         append_shown(&column, Z_STR_P(name), 0);
-        smart_str_appendc(&column, '`');
+        smart_str_append_printf(&column, "`");
     } ZEND_HASH_FOREACH_END();
     smart_str_0(&column);
     refuse_value(writer, zend_ce_type_error, "sets %s to a value of type %s: a column takes one value",
