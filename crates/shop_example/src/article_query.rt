@@ -9,7 +9,7 @@ use std::alloc::{AllocError, Global};
 
 const IN_STOCK: &[u8] = b"SELECT name FROM article WHERE sku = ? AND stock >= ?;";
 
-/// The query for the name of an article of which at least so many are there.
+/// The query for the name of an article with at least so many in stock.
 pub fn article_in_stock(alloc: Global, sku: &str, count: u32) -> Result<Vec<u8>, AllocError>
     ensures text { IfOk result (λ text. text.items ≡
         bound_text with_backslashes IN_STOCK.now (Bytes sku.now ∷ UInt count ∷ [])) }
