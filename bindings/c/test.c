@@ -682,7 +682,7 @@ static void rows_in_growing_memory(void)
         mysql_params_texts texts = {0};
         mysql_params_rows rows = {0};
         mysql_params_report report = {0};
-        allocations_left = allocations == 0 ? ALL : 30;
+        allocations_left = allocations == 0 ? ALL : 1;
         int32_t number = mysql_params_bind_all_rows((const uint8_t *)"?", 1, forms.room, forms.len, false, &texts, &rows, &report);
         allocations_left = ALL;
         expect(number == (allocations == 0 ? MYSQL_PARAMS_DONE : MYSQL_PARAMS_OUT_OF_MEMORY), &it, "another end is wanted");

@@ -60,7 +60,7 @@ test('each request refused in turn', () => {
     const wanted = call()
     let refused = 0
     for (let at = 1; ; at++) {
-      tried(() => bind('?', [1])) // It begins the count anew.
+      tried(() => names(':a')) // It makes a request, which begins the count anew.
       process.env.REFUSE_AT = String(at)
       const answer = tried(call)
       if (answer === undefined) {

@@ -15,6 +15,7 @@ pub mod AnywhereTableLemmas
 pub mod StringRoomLemmas
 pub mod RowsLemmas
 pub mod RowNamesLemmas
+pub mod FewValuesLemmas
 pub mod ReadEachLemmas
 pub mod FragmentLeavesLemmas
 pub mod FragmentsFormLemmas

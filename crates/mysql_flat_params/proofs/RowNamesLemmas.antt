@@ -157,7 +157,7 @@ parameter_under total place pairs pair bytes next some new (middle, name_is, val
     ∙ ap (λ g. Ok (g, next)) (with_more pairs pair some new)
 
 -- no name is read where nothing is left
-some_bytes : (place position : ℕ) (name : List ℕ) (value : Value) (bytes next : List ℕ) →
+pub some_bytes : (place position : ℕ) (name : List ℕ) (value : Value) (bytes next : List ℕ) →
     IsReadUnder place position name value bytes next → bytes ≢ []
 some_bytes place position name value [] next (middle, name_is, value_is) e = cc
 some_bytes place position name value (b ∷ bytes) next h e = cc

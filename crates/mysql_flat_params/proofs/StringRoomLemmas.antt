@@ -1,5 +1,5 @@
 -- A text as a length-encoded string in a room of the caller.
-use Rattle.std.specs.Prelude.{Ok}
+use Rattle.std.specs.Prelude.{Ok, IfSome, None, Option, Some}
 use Rattle.std.proofs.Common.{◌≡◌, ◌+◌, ◌≤◌, ◌<◌, ℕ, List, ◌++◌, length, length-append, take, drop, refl, sym, ap, ◌∙◌, arith}
 use Rattle.std.proofs.Math.Seq.{take-append-add, take-append_seam, drop-append-add, drop-append_seam}
 use Rattle.std.proofs.lemmas.List.{drop-drop}
@@ -66,3 +66,9 @@ pub form_in_room : (reading : Reading) (query form : List ℕ) (given : Given) (
 form_in_room reading query form given old new reads (Done len) (text, bound, room) = (text, (given, reads, bound), room)
 form_in_room reading query form given old new reads (Room len) (text, bound, room) = (text, (given, reads, bound), room)
 form_in_room reading query form given old new reads outcome (text, bound, room) = absurd room
+
+-- .. if there is one
+pub form_if_string : (reading : Reading) (query form : List ℕ) (given : Given) (old new : List ℕ) → IsFormReading form (Ok given) →
+    (r : Option ℕ) → IfSome r (λ len. IsStringInRoom reading query given old new (Done len)) → IfSome r (λ len. IsFormInRoom reading query form old new (Done len))
+form_if_string reading query form given old new reads None h = tt
+form_if_string reading query form given old new reads (Some len) h = form_in_room reading query form given old new reads (Done len) h

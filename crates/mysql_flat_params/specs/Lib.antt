@@ -18,6 +18,7 @@ pub mod BoundRows
 pub mod RowInRoom
 pub mod UnportableReport
 pub mod RowNames
+pub mod FewValues
 pub mod FragmentContent
 pub mod FiniteDouble
 pub mod Keywords

@@ -22,6 +22,7 @@ ghost use Rattle.mysql_flat_params.specs.PlaceTable.{CanHaveTableIn, IfDone, IfT
 ghost use Rattle.mysql_flat_params.specs.WideSteadyIntoRoom.{IsWideAnywhereForm, wide_anywhere_refusal};
 ghost use Rattle.mysql_flat_params.specs.declared.outcome.Outcome as outcome;
 
+use crate::few_values::bind_few;
 use crate::form::form_params;
 use crate::form_names::NamesInPlace;
 use crate::into_room::{ParamsInPlace, borrowed_params, form_outcome, named_pairs, text_outcome};
@@ -130,6 +131,9 @@ pub fn bind_wide_anywhere_by_table_into(
     let Some(spanned) = SpannedQuery::try_new(template.query, survey, template.places) else {
         return TableOutcome::OtherTable;
     };
+    if let Some(len) = bind_few(&spanned, form, &SteadyForm, room) {
+        return TableOutcome::AsQuery(Outcome::Done { len });
+    }
     let params = match form_params::<NamesInPlace>(alloc, form, Vec::new(alloc)) {
         Ok(params) => params,
         Err(error) => return TableOutcome::AsQuery(form_outcome(error)),

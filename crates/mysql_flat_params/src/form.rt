@@ -330,11 +330,18 @@ pub(crate) fn eat_value_ref<'f>(
     }
 }
 
+/// Whether a whole number with these flags has no sign.
+pub(crate) fn is_unsigned_parameter(flags: u8) -> bool
+    ensures { result ≡ is_unsigned_parameter flags }
+{
+    flags & UNSIGNED != 0
+}
+
 // The flags of a column with the same meaning as the flags of a parameter.
 fn column_flags(flags: u8) -> ColumnFlags
     ensures { is_unsigned result ≡ is_unsigned_parameter flags }
 {
-    if flags & UNSIGNED != 0 {
+    if is_unsigned_parameter(flags) {
         ColumnFlags::UNSIGNED_FLAG
     } else {
         ColumnFlags::from_bits_retain(0)

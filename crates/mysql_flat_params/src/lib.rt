@@ -25,6 +25,8 @@
 mod anywhere_table;
 mod column_number;
 mod double;
+mod few_strings;
+mod few_values;
 mod form;
 mod form_error;
 mod form_names;

@@ -15,6 +15,7 @@ ghost use Rattle.mysql_flat_params.specs.IntoRoom.{IfMixed, IfMixedIn, IsBoundFo
 ghost use Rattle.mysql_flat_params.specs.Outcomes as outcomes;
 ghost use Rattle.mysql_flat_params.specs.PlaceTable.{CanHaveTable, CanHaveTableIn, HasOwnTable, HasOwnTableIn, IfAsQuery, IfDone, IfTooLong, IsMadeTable, IsMadeTableIn, IsTableBindOutcome, IsTableBindOutcomeIn, IsTableOutcome, IsTableOutcomeIn, MissesOtherPlace, MissesOtherPlaceIn, UnlessDone, number_of, report_of, survey_of};
 
+use crate::few_values::bind_few;
 use crate::form::form_params;
 use crate::form_names::NamesInPlace;
 use crate::into_room::{
@@ -301,6 +302,12 @@ pub fn bind_by_table_into_read(
     let Some(spanned) = SpannedQuery::try_new(template.query, survey, template.places) else {
         return TableOutcome::OtherTable;
     };
+    let literals = PlainForm {
+        no_backslash_escape: template.reading.no_backslash_escape,
+    };
+    if let Some(len) = bind_few(&spanned, form, &literals, room) {
+        return TableOutcome::AsQuery(Outcome::Done { len });
+    }
     let params = match form_params::<NamesInPlace>(alloc, form, Vec::new(alloc)) {
         Ok(params) => params,
         Err(error) => return TableOutcome::AsQuery(form_outcome(error)),

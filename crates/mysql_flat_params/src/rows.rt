@@ -13,6 +13,7 @@ ghost use Rattle.mysql_flat_params.specs.Outcomes.{IfDone, IfTooLong};
 ghost use Rattle.mysql_flat_params.specs.RowNames.{AreFoundNames, IsFormOfPairs};
 ghost use Rattle.mysql_flat_params.specs.RowInRoom.{IsFormInRoom, IsRowInRoom, IsStringInRoom};
 
+use crate::few_strings::bind_few_string;
 use crate::form::{FormParams, form_params};
 use crate::form_names::NamesInPlace;
 use crate::into_room::{ParamsInPlace, bind_outcome, borrowed_params, form_outcome, named_pairs};
@@ -218,6 +219,9 @@ fn bind_form<'f>(
     ensures found { IfSome memory.new.found (AreFoundNames
         surveyed.now.reading surveyed.now.query.now) }
 {
+    if let Some(len) = bind_few_string(surveyed, form, room) {
+        return Outcome::Done { len };
+    }
     let Some(found) = memory.names_of(alloc, surveyed, form) else {
         return bind_other(alloc, surveyed, form, &mut memory.spare, room);
     };
@@ -340,8 +344,9 @@ fn fill_string(
     Outcome::Done { len }
 }
 
-// The length prefix of a string of this length, at the front of the array, and its number of bytes.
-fn length_lead(len: u64) -> ([u8; 9], usize)
+/// The length prefix of a string of this length, at the front of the array, and its number of
+/// bytes.
+pub(crate) fn length_lead(len: u64) -> ([u8; 9], usize)
     ensures few { result.1 ≤ 9 }
     ensures spelled { take result.1 result.0 ≡ length_spelling len }
     ensures count { result.1 ≡ length (length_spelling len) }

@@ -1,11 +1,13 @@
 //! Tables of queries for any mode and any server, and what is bound by them. The texts are written
 //! by hand: `_utf8mb4'..'` with each quote doubled for printable ASCII without a backslash, and
 //! `_utf8mb4 0x..` for other UTF-8.
-use crate::shared::{NO_HEAD, NO_PLACE, same_in, wrote};
+use crate::shared::{NO_HEAD, NO_PLACE, answer_of, same_in, wrote};
 use mysql_flat_params::{
     AnywhereTemplate, Outcome, PlaceSpan, TableHead, TableOutcome,
     bind_wide_anywhere_by_table_into, wide_anywhere_table_into,
 };
+use std::alloc::{AllocError, Global};
+use std::process::Abort;
 
 const QUERY: &[u8] = b"SELECT :userId, ':ID', :ID";
 
@@ -152,4 +154,65 @@ fn mixed_by_the_table(rt: HostRuntime) {
         TableOutcome::AsQuery(Outcome::Mixed),
         &"the answer",
     );
+}
+
+// Makes a text of this many copies, with commas between them.
+fn copies(alloc: Global, copy: &[u8], count: usize) -> Result<Vec<u8>, AllocError> {
+    let mut text = Vec::new(alloc);
+    for i in 0..count {
+        if i > 0 {
+            text.push(b',')?;
+        }
+        text.extend_from_slice(copy)?;
+    }
+    Ok(text)
+}
+
+// A form of this many parameters by position. Each is the text `'`.
+fn quotes(alloc: Global, count: usize) -> Result<Vec<u8>, AllocError> {
+    let mut form = Vec::new(alloc);
+    for _ in 0..count {
+        form.extend_from_slice(b"\0\xfd\0\x01'")?;
+    }
+    Ok(form)
+}
+
+// This many marks are bound to as many texts, and to no other number of them.
+fn binds_marks(rt: &impl Abort, alloc: Global, count: usize) {
+    let query = answer_of(rt, copies(alloc, b"?", count));
+    let text = answer_of(rt, copies(alloc, b"_utf8mb4''''", count));
+    let mut head = NO_HEAD;
+    let mut places = [NO_PLACE; 20];
+    let table = wide_anywhere_table_into(alloc, query.as_slice(), &mut head, &mut places);
+    same_in(rt, table, Outcome::Done { len: count }, &count);
+    let template = AnywhereTemplate {
+        query: query.as_slice(),
+        head,
+        places: places.get(..count).expect(rt, "the places"),
+    };
+    for values in 1..20 {
+        let form = answer_of(rt, quotes(alloc, values));
+        let mut room = [b'#'; 300];
+        let told = bind_wide_anywhere_by_table_into(alloc, &template, form.as_slice(), &mut room);
+        let wanted = if values == count {
+            Outcome::Done { len: text.len() }
+        } else {
+            Outcome::MarkCount {
+                marks: count,
+                values,
+            }
+        };
+        same_in(rt, told, TableOutcome::AsQuery(wanted), &(count, values));
+        if values == count {
+            wrote(rt, wanted, &room, text.as_slice(), &count);
+        }
+    }
+}
+
+// Up to 16 values are bound without memory, and more with it.
+#[test]
+fn few_marks_and_more(rt: HostRuntime) {
+    for count in [1, 2, 15, 16, 17, 18] {
+        binds_marks(&rt, rt.alloc(), count);
+    }
 }

@@ -40,6 +40,26 @@ const CASES: &[Case<'static>] = &[
         (0, 0),
         Outcome::Room { len: 9 },
     ),
+    // The most values by position that are bound without memory, and one more.
+    (
+        b"?,?,?,?,?,?,?,?,?,?,?,?,?,?,?,?",
+        b"\x30\0\x06\0\0\x06\0\0\x06\0\0\x06\0\0\x06\0\0\x06\0\0\x06\0\0\x06\0\
+            \0\x06\0\0\x06\0\0\x06\0\0\x06\0\0\x06\0\0\x06\0\0\x06\0\0\x06\0",
+        99,
+        b"\x4fNULL,NULL,NULL,NULL,NULL,NULL,NULL,NULL,NULL,NULL,NULL,NULL,NULL,NULL,NULL,NULL",
+        (1, 49),
+        Outcome::Done { len: 80 },
+    ),
+    (
+        b"?,?,?,?,?,?,?,?,?,?,?,?,?,?,?,?,?",
+        b"\x33\0\x06\0\0\x06\0\0\x06\0\0\x06\0\0\x06\0\0\x06\0\0\x06\0\0\x06\0\
+            \0\x06\0\0\x06\0\0\x06\0\0\x06\0\0\x06\0\0\x06\0\0\x06\0\0\x06\0\
+            \0\x06\0",
+        99,
+        b"\x54NULL,NULL,NULL,NULL,NULL,NULL,NULL,NULL,NULL,NULL,NULL,NULL,NULL,NULL,NULL,NULL,NULL",
+        (1, 52),
+        Outcome::Done { len: 85 },
+    ),
     // By name; the lengths of the forms in their longest spelling, and the empty form.
     (
         b":a :a",

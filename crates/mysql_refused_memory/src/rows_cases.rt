@@ -25,12 +25,17 @@ const TWO_ROWS: &[u8] = b"\x05\x00\xFD\x00\x01a\x03\x00\x06\x00";
 /// NULL, and nothing.
 const ONE_ROW: &[u8] = b"\x03\x00\x06\x00\x00";
 
+/// NULL, and the double 0.
+const FLOAT_ROW: &[u8] = b"\x03\x00\x06\x00\x0B\x00\x05\x00\x00\x00\x00\x00\x00\x00\x00\x00";
+
 const BOUND: &[(&str, RowsRow)] = cases! {
     "bind_rows_into of two rows" =>
-        b"= ?", TWO_ROWS, b"\x05= 'a'\x06= NULL", Told::Done { len: 13 }, Asked;
+        b"= ?", TWO_ROWS, b"\x05= 'a'\x06= NULL", Told::Done { len: 13 }, Never;
     "bind_rows_into of no rows" => b":a ?", b"", b"", Told::Done { len: 0 }, Never;
     "bind_rows_into of a refused row" =>
-        b"?", ONE_ROW, b"\x04NULL", Told::MarkCount { marks: 1, values: 0, }, Asked;
+        b"?", ONE_ROW, b"\x04NULL", Told::MarkCount { marks: 1, values: 0, }, Never;
+    "bind_rows_into of a float" =>
+        b"?", FLOAT_ROW, b"\x04NULL", Told::Float { place: 0 }, Asked;
     "bind_rows_into of more places than are kept" =>
         b"?????????????????", b"\x00", b"", Told::MarkCount { marks: 17, values: 0, }, Asked;
 };

@@ -25,6 +25,9 @@ pub(crate) fn case(alloc: Global, name: &str) -> Option<Case> {
     if let Some(row) = row(ANYWHERE_BOUND, name) {
         return Some(Ok(bound_anywhere(alloc, row)));
     }
+    if let Some(row) = row(MARKS_BOUND, name) {
+        return Some(Ok(bound_marks(alloc, row)));
+    }
     Some(Ok(bound_by_wide_names(alloc, row(WIDE_BOUND, name)?)))
 }
 
@@ -252,6 +255,42 @@ fn bound_anywhere(alloc: Global, (places, form, wanted, memory): AnywhereRow) ->
         query: b":Ab,:b",
         head: HEAD,
         places,
+    };
+    let told = bind_wide_anywhere_by_table_into(alloc, &template, form, &mut room);
+    bound_in_room(told, &room, wanted).with(memory)
+}
+
+/// The table of `?,?`: its head, and its places.
+const MARKS_HEAD: TableHead = TableHead {
+    names: 0,
+    marks: 2,
+    not_alone: 0,
+    place: 0,
+    position: 0,
+    piece_bytes: 1,
+};
+
+const MARKS: &[PlaceSpan] = &[
+    PlaceSpan { before: 0, len: 1 },
+    PlaceSpan { before: 1, len: 1 },
+];
+
+/// A form, the text or what is told, and whether the call asks for memory.
+type MarksRow = (&'static [u8], Result<&'static [u8], TableOutcome>, Memory);
+
+const MARKS_BOUND: &[(&str, MarksRow)] = cases! {
+    "bind_wide_anywhere_by_table_into of two marks" =>
+        b"\x00\x06\x00\x00\xFD\x00\x04it's", Ok(b"NULL,_utf8mb4'it''s'"), Never;
+    "bind_wide_anywhere_by_table_into of one value for two marks" => b"\x00\x06\x00",
+        Err(TableOutcome::AsQuery(Told::MarkCount { marks: 2, values: 1, })), Asked;
+};
+
+fn bound_marks(alloc: Global, (form, wanted, memory): MarksRow) -> Outcome {
+    let mut room = *ROOM;
+    let template = AnywhereTemplate {
+        query: b"?,?",
+        head: MARKS_HEAD,
+        places: MARKS,
     };
     let told = bind_wide_anywhere_by_table_into(alloc, &template, form, &mut room);
     bound_in_room(told, &room, wanted).with(memory)

@@ -1,13 +1,15 @@
-use Rattle.std.proofs.Common.{true, ◌∙◌}
+use Rattle.std.proofs.Common.{true, refl, ◌∙◌}
 use Rattle.mysql_flat_params.specs.AnywhereTable.{any_template}
 use Rattle.mysql_flat_params.specs.FormParams.{given_in_place}
 use Rattle.mysql_flat_params.specs.Steadiness.{IsBoundAs, refusal_as}
+use Rattle.mysql_flat_params.specs.declared.outcome.Outcome.TheVariants.{Done}
 use Rattle.mysql_flat_params.specs.declared.steady_room.Steadiness.TheVariants.{Anywhere}
 use Rattle.mysql_flat_params.proofs.AnywhereTableLemmas.{anywhere_cause}
 use Rattle.mysql_flat_params.proofs.IntoRoomLemmas.{first_stands}
 use Rattle.mysql_flat_params.proofs.PlaceTableLemmas.{IsOfTemplate, can_have, misses_other, never_true, never_unfit, of_query, one_refusal, own_spans, own_table}
 use Rattle.mysql_flat_params.proofs.SteadyRoomLemmas.{steady_in_room, steady_told, steady_written}
 use Rattle.mysql_named_params.specs.Reading.{wide_reading}
+use Rattle.mysql_binding.specs.declared.binding.room.TextInRoom.TheVariants.{Written}
 use Rattle.mysql_binding.proofs.CauseLemmas.{never_refused}
 use Rattle.mysql_flat_params.proofs.anywhere_table.bind_wide_anywhere_by_table_into.Goals as goal
 
@@ -58,9 +60,9 @@ returns-in-Ok-bind_places_steady-clause-outcome c = λ own.
     let of_template : IsOfTemplate (any_template c.args.template.now) c.in-Some.spanned = record { query = c.in-Some.ensures.query; survey = c.in-Some.ensures.survey ∙ c.survey_of-survey.ensures; spans = c.in-Some.ensures.spans } in
     let query = c.args.template.now.query.now in
     let given = given_in_place c.in-Ok.params in
-    steady_told true (IsBoundAs true Anywhere query) (refusal_as true Anywhere query) query c.args.form.now given c.in-Ok.ensures.params c.args.room.now c.bind_places_steady.new.room
+    steady_told true (IsBoundAs true Anywhere query) (refusal_as true Anywhere query) query c.args.form.now given c.in-Ok.ensures.params c.bind_few.new.room c.bind_places_steady.new.room
     c.in-Ok-bind_places_steady.text c.text_outcome.result c.text_outcome.ensures
-    (steady_in_room true Anywhere query given c.args.room.now c.bind_places_steady.new.room c.in-Ok-bind_places_steady.text (own.0 true)
+    (steady_in_room true Anywhere query given c.bind_few.new.room c.bind_places_steady.new.room c.in-Ok-bind_places_steady.text (own.0 true)
     (of_query (any_template c.args.template.now) c.in-Some.spanned of_template (wide_reading true) _ (c.in-Ok-bind_places_steady.ensures.text (own_spans (any_template c.args.template.now) c.in-Some.spanned of_template own.1))))
     c.bind_places_steady.auto.room
 
@@ -69,9 +71,9 @@ returns-in-Ok-bind_places_steady-clause-written c = λ own.
     let of_template : IsOfTemplate (any_template c.args.template.now) c.in-Some.spanned = record { query = c.in-Some.ensures.query; survey = c.in-Some.ensures.survey ∙ c.survey_of-survey.ensures; spans = c.in-Some.ensures.spans } in
     let query = c.args.template.now.query.now in
     let given = given_in_place c.in-Ok.params in
-    steady_written true (IsBoundAs true Anywhere query) (refusal_as true Anywhere query) query c.args.form.now given c.in-Ok.ensures.params c.args.room.now c.bind_places_steady.new.room
+    steady_written true (IsBoundAs true Anywhere query) (refusal_as true Anywhere query) query c.args.form.now given c.in-Ok.ensures.params c.bind_few.new.room c.bind_places_steady.new.room
     c.in-Ok-bind_places_steady.text c.text_outcome.result c.text_outcome.ensures
-    (steady_in_room true Anywhere query given c.args.room.now c.bind_places_steady.new.room c.in-Ok-bind_places_steady.text (own.0 true)
+    (steady_in_room true Anywhere query given c.bind_few.new.room c.bind_places_steady.new.room c.in-Ok-bind_places_steady.text (own.0 true)
     (of_query (any_template c.args.template.now) c.in-Some.spanned of_template (wide_reading true) _ (c.in-Ok-bind_places_steady.ensures.text (own_spans (any_template c.args.template.now) c.in-Some.spanned of_template own.1))))
 
 pub returns-in-Ok-bind_places_steady-clause-mixed : goal.returns-in-Ok-bind_places_steady-clause-mixed
@@ -88,3 +90,26 @@ returns-in-Err-bind_places_steady-clause-mixed c = λ own none.
 
 pub returns-in-Err-bind_places_steady-clause-memory : goal.returns-in-Err-bind_places_steady-clause-memory
 returns-in-Err-bind_places_steady-clause-memory c = λ is. first_stands _ _ c.in-Ok.ensures.params
+
+-- ---- a few values by position
+
+pub returns-in-Some-bind_few-clause-outcome : goal.returns-in-Some-bind_few-clause-outcome
+returns-in-Some-bind_few-clause-outcome c = λ own.
+    let of_template : IsOfTemplate (any_template c.args.template.now) c.in-Some.spanned = record { query = c.in-Some.ensures.query; survey = c.in-Some.ensures.survey ∙ c.survey_of-survey.ensures; spans = c.in-Some.ensures.spans } in
+    let query = c.args.template.now.query.now in
+    let (given, reads, text) = c.in-Some-bind_few.ensures.text (wide_reading true) (own_spans (any_template c.args.template.now) c.in-Some.spanned of_template own.1) in
+    steady_told true (IsBoundAs true Anywhere query) (refusal_as true Anywhere query) query c.args.form.now given reads c.args.room.now c.bind_few.new.room
+    (Written c.in-Some-bind_few.len) (Done c.in-Some-bind_few.len) refl
+    (steady_in_room true Anywhere query given c.args.room.now c.bind_few.new.room (Written c.in-Some-bind_few.len) (own.0 true)
+    (of_query (any_template c.args.template.now) c.in-Some.spanned of_template (wide_reading true) _ text))
+    c.bind_few.auto.room
+
+pub returns-in-Some-bind_few-clause-written : goal.returns-in-Some-bind_few-clause-written
+returns-in-Some-bind_few-clause-written c = λ own.
+    let of_template : IsOfTemplate (any_template c.args.template.now) c.in-Some.spanned = record { query = c.in-Some.ensures.query; survey = c.in-Some.ensures.survey ∙ c.survey_of-survey.ensures; spans = c.in-Some.ensures.spans } in
+    let query = c.args.template.now.query.now in
+    let (given, reads, text) = c.in-Some-bind_few.ensures.text (wide_reading true) (own_spans (any_template c.args.template.now) c.in-Some.spanned of_template own.1) in
+    steady_written true (IsBoundAs true Anywhere query) (refusal_as true Anywhere query) query c.args.form.now given reads c.args.room.now c.bind_few.new.room
+    (Written c.in-Some-bind_few.len) (Done c.in-Some-bind_few.len) refl
+    (steady_in_room true Anywhere query given c.args.room.now c.bind_few.new.room (Written c.in-Some-bind_few.len) (own.0 true)
+    (of_query (any_template c.args.template.now) c.in-Some.spanned of_template (wide_reading true) _ text))
