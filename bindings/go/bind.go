@@ -73,16 +73,19 @@ func (b Binder) bind(q *question, args []any) (string, error) {
 	}
 	r := rooms.Get().(*room)
 	defer r.giveBack()
-	if q.table != nil && q.table.isInOrder(args) {
+	if q.table != nil && q.table.marked != nil {
 		r.writer.begin(b.Location, false)
-		if err := r.writer.inOrder(args); err != nil {
+		is, err := r.writer.inOrder(q.table.names, args)
+		if err != nil {
 			return "", err
 		}
-		marked := q.marked()
-		if text, err := r.answer(&marked); err == nil {
-			return text, nil
+		if is {
+			marked := q.marked()
+			if text, err := r.answer(&marked); err == nil {
+				return text, nil
+			}
+			// The query with its names tells the refusal.
 		}
-		// The query with its names tells the refusal.
 	}
 	r.writer.begin(b.Location, q.call == callBothModes)
 	if err := r.writer.arguments(args); err != nil {

@@ -2,6 +2,7 @@ package mysqlparams
 
 import (
 	"database/sql"
+	"database/sql/driver"
 	"errors"
 	"fmt"
 	"strings"
@@ -37,11 +38,50 @@ func TestKeptQueries(t *testing.T) {
 			t.Errorf("%s: not kept", query)
 		}
 	}
-	if !keptTemplate(BackslashEscapes, "SELECT :a, '?:a', :B").isInOrder([]any{a, b}) {
-		t.Error("values in the order of the places have their names written")
+	names := keptTemplate(BackslashEscapes, "SELECT :a, '?:a', :B").names
+	for _, c := range []struct {
+		args []any
+		is   bool
+	}{{[]any{a, b}, true}, {[]any{b, a}, false}, {[]any{a}, false}, {[]any{a, 1}, false}} {
+		var w writer
+		if is, err := w.inOrder(names, c.args); is != c.is || err != nil {
+			t.Error(c.args, is, err)
+		}
 	}
 	if keptTemplate(BackslashEscapes, "SELECT :a, :B, :a").marked != nil {
 		t.Error("a name that stands twice can't do without names")
+	}
+}
+
+// counted is a driver.Valuer that counts how often it is asked.
+type counted int
+
+func (c *counted) Value() (driver.Value, error) {
+	*c++
+	return int64(*c), nil
+}
+
+// TestValuersOfKeptQueries has a method Value be asked once for each text, also of arguments in another order, without
+// names and beside a value that is refused.
+func TestValuersOfKeptQueries(t *testing.T) {
+	refused := sql.Named("b", make(chan int))
+	for i := 0; i < 4; i++ {
+		for _, c := range []struct {
+			rest   []any
+			wanted string
+		}{{[]any{sql.Named("b", 7), sql.Named("c", 8)}, "SELECT 1, 7, 8"}, {[]any{sql.Named("c", 8), sql.Named("b", 7)}, "SELECT 1, 7, 8"},
+			{[]any{refused, sql.Named("c", 8)}, ""}, {[]any{sql.Named("b", 7), 8}, ""}, {[]any{sql.Named("c", 8), sql.Named("", 7)}, ""}} {
+			var asked counted
+			text, err := BindAnywhere("SELECT :a, :b, :c", append([]any{sql.Named("a", &asked)}, c.rest...)...)
+			if text != c.wanted || (err == nil) != (c.wanted != "") || asked != 1 {
+				t.Errorf("%v: %q, %v, asked %d times", c.rest, text, err, asked)
+			}
+		}
+	}
+	var found *BindError
+	_, err := BindAnywhere("SELECT ?, ?", sql.Named("a", 1), sql.Named("", 2))
+	if !errors.As(err, &found) || found.Name != "" || found.Place != 1 {
+		t.Errorf("%#v", found)
 	}
 }
 
@@ -140,7 +180,7 @@ func TestKeptQueriesForAnyConnection(t *testing.T) {
 			if !errors.As(err, &found) || found.Code != code || text != "" {
 				t.Errorf("%s: %q, %v", query, text, err)
 			}
-			if query == "SELECT /*!1*/ :p" && i == 3 && !keptTemplate(BackslashEscapes, query).isInOrder([]any{sql.Named("p", 1)}) {
+			if query == "SELECT /*!1*/ :p" && i == 3 && keptTemplate(BackslashEscapes, query).marked == nil {
 				t.Error("the query isn't kept")
 			}
 		}

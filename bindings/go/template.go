@@ -5,8 +5,6 @@ package mysqlparams
 */
 import "C"
 
-import "database/sql"
-
 // placesAt returns where places stand.
 func placesAt(places []C.mysql_params_place) (*C.mysql_params_place, C.size_t) {
 	if len(places) == 0 {
@@ -118,19 +116,6 @@ func (r *room) anywhereTableOf(query string, count int) *anywhereTable {
 		return nil
 	}
 	return made
-}
-
-// isInOrder returns whether arguments are of the names of the places, in their order.
-func (t *Template) isInOrder(args []any) bool {
-	if t.marked == nil || len(args) != len(t.names) {
-		return false
-	}
-	for i, arg := range args {
-		if named, ok := arg.(sql.NamedArg); !ok || named.Name != t.names[i] {
-			return false
-		}
-	}
-	return true
 }
 
 // Query returns the query.

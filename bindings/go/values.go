@@ -24,8 +24,8 @@ func (w *writer) value(value any, at level) error {
 	return w.valueOf(value, at, longestChain)
 }
 
-// valueOf writes a value to which so many steps may lead. It has the types that most values are of.
-func (w *writer) valueOf(value any, at level, steps int) error {
+// plain writes a value of those types that are never refused, and returns whether it is of one.
+func (w *writer) plain(value any) bool {
 	switch v := value.(type) {
 	case nil:
 		w.null()
@@ -41,14 +41,24 @@ func (w *writer) valueOf(value any, at level, steps int) error {
 		w.bool(v)
 	case float64:
 		w.double(v)
+	default:
+		return false
+	}
+	return true
+}
+
+// valueOf writes a value to which so many steps may lead. It has the types that most values are of.
+func (w *writer) valueOf(value any, at level, steps int) error {
+	if w.plain(value) {
+		return nil
+	}
+	switch v := value.(type) {
 	case time.Time:
 		return w.time(v)
 	case []any, []int, []int64, []string, [][]any:
 		return w.list(v, at)
-	default:
-		return w.otherValue(value, at, steps)
 	}
-	return nil
+	return w.otherValue(value, at, steps)
 }
 
 // otherValue writes a value of another type: those that have a meaning here, then what has a method Value,

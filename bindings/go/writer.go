@@ -47,14 +47,19 @@ func (w *writer) end() {
 // arguments writes all arguments of a call.
 func (w *writer) arguments(args []any) error {
 	for i, arg := range args {
-		w.number, w.name = i, ""
+		name := ""
 		if named, ok := arg.(sql.NamedArg); ok {
 			if named.Name == "" {
+				w.number, w.name = i, ""
 				return w.refuse("Parameter " + strconv.Itoa(i) + " has an empty name")
 			}
-			w.name, arg = named.Name, named.Value
+			name, arg = named.Name, named.Value
 		}
-		w.string(w.name)
+		w.string(name)
+		if w.plain(arg) {
+			continue
+		}
+		w.number, w.name = i, name
 		if err := w.value(arg, placeLevel); err != nil {
 			return err
 		}
@@ -62,17 +67,41 @@ func (w *writer) arguments(args []any) error {
 	return nil
 }
 
-// inOrder writes all arguments of a call, which have names, without these.
-func (w *writer) inOrder(args []any) error {
+// inOrder writes all arguments of a call without their names, if these are the names in their order. It returns
+// whether they are.
+func (w *writer) inOrder(names []string, args []any) (bool, error) {
+	if len(args) != len(names) {
+		return false, nil
+	}
 	for i, arg := range args {
-		named := arg.(sql.NamedArg)
-		w.number, w.name = i, named.Name
+		named, ok := arg.(sql.NamedArg)
+		if !ok || named.Name != names[i] {
+			return false, nil
+		}
 		w.form = append(w.form, 0)
+		if w.plain(named.Value) {
+			continue
+		}
+		// A method Value is asked once: so no argument may have another name.
+		if !haveNames(args[i+1:], names[i+1:]) {
+			return false, nil
+		}
+		w.number, w.name = i, named.Name
 		if err := w.value(named.Value, placeLevel); err != nil {
-			return err
+			return true, err
 		}
 	}
-	return nil
+	return true, nil
+}
+
+// haveNames returns whether arguments, as many as the names, have these.
+func haveNames(args []any, names []string) bool {
+	for i, arg := range args {
+		if named, ok := arg.(sql.NamedArg); !ok || named.Name != names[i] {
+			return false
+		}
+	}
+	return true
 }
 
 // refuse returns the error for the argument that is written.
