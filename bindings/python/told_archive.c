@@ -71,6 +71,7 @@ BIND(mysql_params_bind_fragments_wide)
         (void)query_len, (void)form, (void)form_len;                                                                           \
         return answer(query, room, room_len, report);                                                                          \
     }
+BIND_STEADY(mysql_params_bind_anywhere)
 BIND_STEADY(mysql_params_bind_anywhere_wide)
 BIND_STEADY(mysql_params_bind_in_both_modes_wide)
 BIND_STEADY(mysql_params_bind_fragments_anywhere_wide)

@@ -32,6 +32,8 @@ static int32_t ask(const question *q, uint8_t *room, size_t len, mysql_params_re
     case CALL_ANYWHERE:
         if (q->is_fragments)
             return mysql_params_bind_fragments_anywhere_wide(query.at, query.len, form.at, form.len, room, len, report);
+        if (q->made != NULL)
+            return mysql_params_template_bind_anywhere(q->made, form.at, form.len, room, len, report);
         return mysql_params_bind_anywhere_wide(query.at, query.len, form.at, form.len, room, len, report);
     case CALL_BIND:
         break;
@@ -121,6 +123,8 @@ zend_string *bound(question *question, HashTable *params, enum level level)
         question->form = (bytes){form.bytes, form.len};
         question->values = form.values;
         question->is_fragments = form.is_fragments && level == LEVEL_PLACES;
+        if (question->again != NULL && !question->is_fragments)
+            question->made = kept_template(question->again);
         text = answer(question);
     }
     form_free(&form);
@@ -147,6 +151,8 @@ static void bind_by(INTERNAL_FUNCTION_PARAMETERS, enum call call, enum level lev
         Z_PARAM_ARRAY_HT(params)
     ZEND_PARSE_PARAMETERS_END();
     question question = {.call = call, .query = bytes_of(query)};
+    if (call == CALL_ANYWHERE)
+        question.again = query;
     RETURN_TEXT(bound(&question, params, level));
 }
 
@@ -174,6 +180,8 @@ PHP_FUNCTION(MysqlParams_bind)
     question question = {.call = CALL_BIND, .query = bytes_of(query)};
     if (!take_mode(mode, 3, &question.mode))
         RETURN_THROWS();
+    if (!question.mode)
+        question.again = query;
     RETURN_TEXT(bound(&question, params, LEVEL_PLACES));
 }
 

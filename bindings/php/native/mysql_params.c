@@ -119,6 +119,7 @@ static PHP_GINIT_FUNCTION(mysql_params)
 
 static PHP_GSHUTDOWN_FUNCTION(mysql_params)
 {
+    kept_end(mysql_params_globals->kept);
     pefree(mysql_params_globals->room, 1);
 }
 

@@ -4,7 +4,7 @@
  *
  * Memory and exceptions:
  * - A form and a text are of PHP's own memory. If that has none, PHP ends the request by its own error, and gives all of
- *   it back. Nothing here is of `malloc` except a template, which its object gives back.
+ *   it back. Nothing here is of `malloc` except a template, which its object gives back, or is kept for later requests.
  * - A zval and a string that is handed in is borrowed: its caller holds it until the call returns.
  * - A function that returns bool returns false with an exception thrown, unless its comment says otherwise.
  * - While parameters are written no code of a user runs. While rows are iterated over it may.
@@ -24,8 +24,19 @@
 /* How long the room is that is kept for answers. */
 enum { KEPT_ROOM = 1 << 16 };
 
+/* How many queries have a template that is kept. */
+enum { KEPT_QUERIES = 256 };
+
+/* A slot for queries with a hash like its number. */
+typedef struct kept_query {
+    zend_ulong hash;             /* of the one that was given last */
+    uint32_t times;              /* how often, one time after another */
+    mysql_params_template *made; /* owned; of one that was given often enough, or null */
+} kept_query;
+
 ZEND_BEGIN_MODULE_GLOBALS(mysql_params)
     uint8_t *room;  /* owned, KEPT_ROOM bytes that have a value; not used across code of a user */
+    kept_query kept[KEPT_QUERIES]; /* see kept.c */
     HashTable told; /* what connections answered, by their objects; see sending.c */
 ZEND_END_MODULE_GLOBALS(mysql_params)
 
@@ -135,7 +146,8 @@ enum call { CALL_NAMES, CALL_BIND, CALL_ANYWHERE, CALL_BOTH_MODES };
 typedef struct question {
     enum call call;
     bytes query;
-    const mysql_params_template *made; /* borrowed; the query's in this mode, or null */
+    const mysql_params_template *made; /* borrowed; the query's, in this mode for CALL_BIND, or null */
+    zend_string *again;                /* borrowed; the query, if a template of it may be kept, or null */
     bytes form;
     size_t values;     /* values in the form, as far as they are known: they tell how long the text may get */
     bool is_fragments;
@@ -193,6 +205,12 @@ PHP_FUNCTION(MysqlParams_first_unportable_in_client);
 PHP_FUNCTION(MysqlParams_query);
 PHP_FUNCTION(MysqlParams_execute);
 PHP_FUNCTION(MysqlParams_ask_again);
+
+/* Gives the templates back that are kept. */
+void kept_end(kept_query kept[KEPT_QUERIES]);
+
+/* The template that is kept of a query, for the mode with backslash escapes, or null. It is kept until the next call. */
+const mysql_params_template *kept_template(zend_string *query);
 
 /* What sending.c keeps for a request. */
 void sending_begin(void);

@@ -312,6 +312,28 @@ test('rows of an iterator that calls the extension itself', function () {
     same("VALUES ('SELECT \\'xx\\'', '2')", $texts[2]);
 });
 
+test('queries that come again', function () {
+    $long = 'SELECT :a' . str_repeat(' ', 5000);
+    for ($time = 0; $time < 6; $time++) {
+        same("SELECT _utf8mb4'it''s', ':a', 1", bind_anywhere("SELECT :A, ':a', :a", ['a' => 1, 'A' => "it's"]));
+        same("SELECT 'it\\'s', ':a', 1", bind("SELECT :A, ':a', :a", ['A' => "it's", 'a' => 1]));
+        same("SELECT 'it''s', '\\', 1", bind("SELECT :a, '\\', :b", ['a' => "it's", 'b' => 1], true));
+        same('SELECT 0.5e0, (1, 2)', bind_anywhere('SELECT ?, (?)', [0.5, [1, 2]]));
+        same('SELECT 1' . str_repeat(' ', 5000), bind_anywhere($long, ['a' => 1]));
+        same("SELECT '\u{e9}', 1", bind("SELECT '\u{e9}', ?", [1]));
+        foreach ([
+            [BindException::UNPORTABLE, 'SELECT /*! :a */', ['a' => 1]], [BindException::UNSTEADY, "SELECT '\u{e9}', :a", ['a' => 1]],
+            [BindException::MISSING, "SELECT ':a', :a, :b", ['a' => 1]], [BindException::MARK_COUNT, 'SELECT ?, ?', [1]],
+        ] as [$code, $query, $values]) {
+            same($code, thrown(fn () => bind_anywhere($query, $values))->getCode(), $query);
+        }
+    }
+    for ($number = 0; $number < 3000; $number++) {
+        $name = 'a' . intdiv($number, 4) % 500;
+        same("SELECT $number", bind_anywhere("SELECT :$name", [$name => $number]));
+    }
+});
+
 test('templates', function () {
     $template = new Template('SELECT :a, :b');
     same(['SELECT :a, :b', false], [$template->query, $template->noBackslashEscape]);
