@@ -10,8 +10,8 @@ use Rattle.mysql_binding.specs.WrittenText.{IsGivenText}
 use Rattle.mysql_binding.specs.declared.binding.room.TextInRoom.TheVariants.{Written}
 use Rattle.mysql_flat_params.specs.FlatForm.{IsFormReading}
 
--- the form has parameters, and the query bound to them is at the front of the room; the rest of the
--- room is unchanged
+-- the form is read, and the query bound to its parameters is at the front of the room; the rest of
+-- the room is unchanged
 abbrev pub IsFewBound : Literals → LiteralFacts → Reading → (query form old new : List ℕ) → ℕ
     → Type 0
 IsFewBound literal IsKnown reading query form old new len =

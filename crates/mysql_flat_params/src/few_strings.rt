@@ -21,11 +21,10 @@ use crate::rows::length_lead;
 use mysql_binding::{LiteralForm, PlainForm, SurveyedQuery, append_piece, place_after};
 use mysql_values::value::ValueRef;
 
-/// The length of the string that is at the front of the room: the text of a query with a form's
-/// values by position, length-encoded.
-///
-/// `None` if there are no values or more than a few, if the room is too short, and if anything is
-/// to be refused. The room is then unchanged. Nothing is allocated.
+/// Writes the text with a form's values by position to the front of the room, as a length-encoded
+/// string, and returns the string's length. It returns `None` as
+/// [`bind_few`](crate::few_values::bind_few) does, and the room is then unchanged. Nothing is
+/// allocated.
 pub(crate) fn bind_few_string(
     surveyed: &SurveyedQuery<'_>,
     form: &[u8],
@@ -48,8 +47,8 @@ pub(crate) fn bind_few_string(
 }
 
 // Writes the text of a query with these values, as a length-encoded string, to the front of the
-// room, and returns the string's length. `None` for a float, and if the room is too short: it is
-// then unchanged.
+// room, and returns the string's length. `None` for a float, or if the room is too short. The room
+// is then unchanged.
 fn write_string(
     surveyed: &SurveyedQuery<'_>,
     values: &[ValueRef<'_>],

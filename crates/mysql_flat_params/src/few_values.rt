@@ -1,4 +1,4 @@
-//! Binding a few values by position by the spans of a query's marks, without allocating.
+//! Binding a few values by position to a query whose spans are known, without allocating.
 ghost use Rattle.std.specs.Prelude.{◌≡◌, ◌≢◌, ◌+◌, ◌++◌, ◌<◌, ◌≤◌, [], Ok, None, Some, length, map, true, false, take, IfSome};
 ghost use Rattle.std.specs.List.{sum};
 ghost use Rattle.mysql_wire_part.specs.ParseBuf.{left};
@@ -30,13 +30,16 @@ const LONG_LONG: u8 = 8;
 
 const VAR_STRING: u8 = 253;
 
-// A literal of these types has at most this many bytes fewer than its parameter.
+// A literal is at most this many bytes shorter than its parameter, which has one of these types and
+// a name of one byte.
 const MOST_SHORTER: usize = 10;
 
-/// The length of the text with a form's values by position, which is at the front of the room.
+/// Writes the text with a form's values by position to the front of the room, and returns its
+/// length.
 ///
-/// `None` if there are no values or more than a few, if the room is too short, and if anything is
-/// to be refused. The room is then unchanged. Nothing is allocated.
+/// `None` if there are no values or more than a few, if the name of one isn't the byte 0, if the
+/// room is too short, or if anything is to be refused. The room is then unchanged. Nothing is
+/// allocated.
 pub(crate) fn bind_few<F: LiteralForm>(
     spanned: &SpannedQuery<'_>,
     form: &[u8],
@@ -80,8 +83,8 @@ pub(crate) fn has_few_marks(survey: Survey) -> bool
     survey.names == 0 && 0 < survey.marks && survey.marks <= FEW && survey.not_alone.is_none()
 }
 
-/// Reads the values of a form over the whole of `values`, if it has exactly as many, all by
-/// position. Otherwise it returns false, and some values may have changed.
+/// Reads the values of a form over the whole of `values`, if it has exactly as many, and the name
+/// of each is the byte 0. Otherwise it returns false, and some values may have changed.
 pub(crate) fn read_values<'f>(form: &'f [u8], values: &mut [ValueRef<'f>]) -> bool
     requires some { 0 < length values.old }
     ensures read { result ≡ true →
@@ -101,7 +104,7 @@ pub(crate) fn read_values<'f>(form: &'f [u8], values: &mut [ValueRef<'f>]) -> bo
     rest.is_empty()
 }
 
-// The value of the next parameter, if it has no name and is read.
+// The value of the next parameter, if its name is the byte 0 and it is read.
 fn value_by_position<'f>(spot: Spot, rest: &mut ParseBuf<'f>) -> Option<ValueRef<'f>>
     ensures { IfSome result (λ value. IsReadUnder spot.place spot.position [] (owned value)
         (left rest.old) (left rest.new)) }
@@ -163,7 +166,7 @@ fn string<'f>(rest: &mut ParseBuf<'f>) -> Option<ValueRef<'f>>
 }
 
 // Writes the text of a query with these values at the front of the room, and returns its length.
-// `None` for a float, and if the room is too short: it is then unchanged.
+// `None` for a float, or if the room is too short. The room is then unchanged.
 fn write_few<F: LiteralForm>(
     spanned: &SpannedQuery<'_>,
     values: &[ValueRef<'_>],
@@ -194,7 +197,7 @@ fn write_few<F: LiteralForm>(
 }
 
 /// Writes the lengths of the values' literals over the whole of `lens`, and returns the length of
-/// the text with these literals and `piece_bytes` other bytes. `None` for a float, and if the text
+/// the text with these literals and `piece_bytes` other bytes. `None` for a float, or if the text
 /// is longer than `room_len`.
 pub(crate) fn literal_lens<F: LiteralForm>(
     piece_bytes: usize,

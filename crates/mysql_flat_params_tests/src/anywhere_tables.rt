@@ -209,7 +209,7 @@ fn binds_marks(rt: &impl Abort, alloc: Global, count: usize) {
     }
 }
 
-// Up to 16 values are bound without memory, and more with it.
+// As many values as are kept on the stack, and more.
 #[test]
 fn few_marks_and_more(rt: HostRuntime) {
     for count in [1, 2, 15, 16, 17, 18] {

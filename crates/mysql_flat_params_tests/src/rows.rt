@@ -40,7 +40,7 @@ const CASES: &[Case<'static>] = &[
         (0, 0),
         Outcome::Room { len: 9 },
     ),
-    // The most values by position that are bound without memory, and one more.
+    // As many values by position as are kept on the stack, and one more.
     (
         b"?,?,?,?,?,?,?,?,?,?,?,?,?,?,?,?",
         b"\x30\0\x06\0\0\x06\0\0\x06\0\0\x06\0\0\x06\0\0\x06\0\0\x06\0\0\x06\0\

@@ -25,12 +25,19 @@ const TWO_ROWS: &[u8] = b"\x05\x00\xFD\x00\x01a\x03\x00\x06\x00";
 /// NULL, and nothing.
 const ONE_ROW: &[u8] = b"\x03\x00\x06\x00\x00";
 
+/// Sixteen times 1, of type TINY (1).
+const SIXTEEN: &[u8] = b"\x40\0\x01\0\x01\0\x01\0\x01\0\x01\0\x01\0\x01\0\x01\
+    \0\x01\0\x01\0\x01\0\x01\0\x01\0\x01\0\x01\0\x01\0\x01\0\x01\0\x01\0\x01\
+    \0\x01\0\x01\0\x01\0\x01\0\x01\0\x01\0\x01\0\x01\0\x01\0\x01\0\x01\0\x01";
+
 /// NULL, and the double 0.
 const FLOAT_ROW: &[u8] = b"\x03\x00\x06\x00\x0B\x00\x05\x00\x00\x00\x00\x00\x00\x00\x00\x00";
 
 const BOUND: &[(&str, RowsRow)] = cases! {
     "bind_rows_into of two rows" =>
         b"= ?", TWO_ROWS, b"\x05= 'a'\x06= NULL", Told::Done { len: 13 }, Never;
+    "bind_rows_into of sixteen marks" => b"?,?,?,?,?,?,?,?,?,?,?,?,?,?,?,?", SIXTEEN,
+        b"\x1F1,1,1,1,1,1,1,1,1,1,1,1,1,1,1,1", Told::Done { len: 32 }, Never;
     "bind_rows_into of no rows" => b":a ?", b"", b"", Told::Done { len: 0 }, Never;
     "bind_rows_into of a refused row" =>
         b"?", ONE_ROW, b"\x04NULL", Told::MarkCount { marks: 1, values: 0, }, Never;
