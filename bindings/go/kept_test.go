@@ -83,6 +83,10 @@ func TestValuersOfKeptQueries(t *testing.T) {
 	if !errors.As(err, &found) || found.Name != "" || found.Place != 1 {
 		t.Errorf("%#v", found)
 	}
+	_, err = BindRows(BackslashEscapes, "SELECT :a", [][]any{{sql.Named("a", 1)}, {sql.Named("", 2)}})
+	if !errors.As(err, &found) || found.Name != "" || found.Row != 1 {
+		t.Errorf("%#v", found)
+	}
 }
 
 // TestKeptAnywhere has queries bound for any connection again and again: by values in the order of the places, in

@@ -68,7 +68,7 @@ func (w *writer) arguments(args []any) error {
 }
 
 // inOrder writes all arguments of a call without their names, if these are the names in their order. It returns
-// whether they are.
+// whether they are, and the error of the first value that is refused.
 func (w *writer) inOrder(names []string, args []any) (bool, error) {
 	if len(args) != len(names) {
 		return false, nil

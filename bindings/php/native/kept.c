@@ -4,7 +4,7 @@
 /* Queries of more bytes have none, so that what is kept stays small. */
 enum { LONGEST_KEPT = 1024 };
 
-/* A query has a template once it was given so often, with no other of its slot in between. */
+/* A query gets a template when it is given so often in a row, among those of its slot that have none. */
 enum { ENOUGH_TIMES = 3 };
 
 void kept_end(kept_query kept[KEPT_QUERIES])

@@ -27,11 +27,11 @@ enum { KEPT_ROOM = 1 << 16 };
 /* How many queries have a template that is kept. */
 enum { KEPT_QUERIES = 256 };
 
-/* A slot for queries with a hash like its number. */
+/* A slot for the queries whose hashes end alike. */
 typedef struct kept_query {
-    zend_ulong hash;             /* of the one that was given last */
-    uint32_t times;              /* how often, one time after another */
-    mysql_params_template *made; /* owned; of one that was given often enough, or null */
+    zend_ulong hash;             /* of the last query that was given without a template */
+    uint32_t times;              /* how often it was given so, one time after another */
+    mysql_params_template *made; /* owned; of a query that was given often enough, or null */
 } kept_query;
 
 ZEND_BEGIN_MODULE_GLOBALS(mysql_params)
