@@ -18,6 +18,7 @@ import fragments
 import leaks
 import limits
 import literals
+import meanings
 import names
 import others
 import pipes
@@ -57,6 +58,7 @@ def main(path: str, mysql_query: str, mysql_bind: str, folder: str) -> int:
     exported.run(tests, path, os.path.abspath(mysql_bind), folder, is_mysql)
     leaks.run(tests, path)
     limits.run(tests, path, folder)
+    meanings.run(tests, path)
     search.run(tests, path)
     signs.run(tests, path)
     steady.run(tests, path, folder)
