@@ -33,9 +33,17 @@ enum {
     TYPE_ASSIGNMENTS = 135
 };
 
-/* What the list that is open is of: items, as those of a row too, identifiers, or assignments, also behind the column of one
- * that has no item yet. */
-enum { OF_ITEMS, OF_IDENTIFIERS, OF_ASSIGNMENTS, OF_COLUMN };
+/* Where the next part of a form stands. */
+enum {
+    OUTSIDE,        /* in no list and no rows */
+    IN_LIST,        /* in a list */
+    IN_ROWS,        /* in rows, and in no row of them */
+    IN_ROW,         /* in a row */
+    IN_IDENTIFIERS, /* in identifiers */
+    IN_ASSIGNMENTS, /* in assignments, where a column is next */
+    AT_ITEM,        /* behind the column of an assignment, where its item is next */
+    AMONG_FORMS     /* behind a row that mysql_params_append_row has appended */
+};
 
 /* Bit of the flags that says unsigned. */
 enum { FLAG_UNSIGNED = 128 };
@@ -53,7 +61,7 @@ mysql_params_form mysql_params_form_in(uint8_t *room, size_t room_len)
 {
     /* Lent if no memory is given, since mysql_params_bind takes no null. Its length is 0, so it is never written. */
     static uint8_t nothing;
-    mysql_params_form form = {room == NULL ? &nothing : room, room == NULL ? 0 : room_len, 0, 0, false, 0, 0, 0, 0, OF_ITEMS};
+    mysql_params_form form = {room == NULL ? &nothing : room, room == NULL ? 0 : room_len, 0, 0, false, 0, 0, 0, 0, 0, OUTSIDE};
     return form;
 }
 
@@ -102,7 +110,7 @@ static size_t sum(size_t a, size_t b)
 /* Makes room for so many bytes more in a form that grows, if there is memory. */
 static void grow(mysql_params_form *form, size_t more)
 {
-    size_t wanted = sum(form->len, more);
+    size_t wanted = sum(form->written, more);
     size_t twice = sum(form->room_len, form->room_len);
     if (wanted < twice)
         wanted = twice;
@@ -113,75 +121,122 @@ static void grow(mysql_params_form *form, size_t more)
     form->room_len = wanted;
 }
 
-/* Counts so many bytes more as needed. Returns whether there is room for them, with more memory in a form that grows. */
-static bool makes_room(mysql_params_form *form, size_t needed)
+/* Whether all that was appended stands in the room, and nothing where it can't stand. */
+static bool fits(const mysql_params_form *form)
 {
-    if (form->grows && form->needed == form->len && needed > form->room_len - form->len)
-        grow(form, needed);
-    bool fits = form->needed == form->len && needed <= form->room_len - form->len;
-    form->needed = sum(form->needed, needed);
-    return fits;
+    return form->needed == form->written;
+}
+
+/* Counts so many bytes more as needed. Returns whether there is room for them, with more memory in a form that grows. */
+static bool makes_room(mysql_params_form *form, size_t more)
+{
+    if (form->grows && fits(form) && more > form->room_len - form->written)
+        grow(form, more);
+    bool has_room = fits(form) && more <= form->room_len - form->written;
+    form->needed = sum(form->needed, more);
+    return has_room;
 }
 
 /* Appends bytes for which there is room. */
 static void append(mysql_params_form *form, const void *bytes, size_t len)
 {
     if (len > 0)
-        memcpy(form->room + form->len, bytes, len);
-    form->len += len;
+        memcpy(form->room + form->written, bytes, len);
+    form->written += len;
 }
 
-/* Has the form be one in which something doesn't fit, whatever its room. */
+/* Has the form be one to which something was appended where it can't stand, whatever its room. */
 static bool append_nothing(mysql_params_form *form)
 {
-    return makes_room(form, SIZE_MAX);
+    form->needed = SIZE_MAX;
+    return false;
 }
 
-/* Whether a parameter of a type may stand next. In a list the archive judges it; an assignment is of a value or an exact
- * number. */
+/* Counts what was appended to the form, unless it stands in a list or in rows that have no end yet. Returns whether all fits. */
+static bool commit(mysql_params_form *form)
+{
+    if (fits(form) && (form->state == OUTSIDE || form->state == AMONG_FORMS))
+        form->len = form->written;
+    return fits(form);
+}
+
+/* Whether the form is one of parameters, and lacks nothing. */
+static bool is_whole(const mysql_params_form *form)
+{
+    return form->needed == form->len && form->state == OUTSIDE;
+}
+
+/* Whether a parameter of a type may stand next. In a list and in a row the archive judges it; an assignment is of a value or
+ * an exact number. */
 static bool is_taken(const mysql_params_form *form, uint8_t type)
 {
-    if (form->list_of == OF_ITEMS)
+    switch (form->state) {
+    case OUTSIDE:
+    case IN_LIST:
+    case IN_ROW:
         return true;
-    return form->list_of != OF_IDENTIFIERS && (type <= TYPE_NUMBER || type == TYPE_VAR_STRING);
+    case IN_ASSIGNMENTS:
+    case AT_ITEM:
+        return type <= TYPE_NUMBER || type == TYPE_VAR_STRING;
+    default:
+        return false;
+    }
+}
+
+/* Counts an item more of what is open. Returns whether the count has a number for it. */
+static bool counts_item(mysql_params_form *form)
+{
+    if (form->state == OUTSIDE)
+        return true;
+    if (form->items == UINT32_MAX)
+        return false;
+    form->items++;
+    return true;
 }
 
 /* Fills in what stands before a parameter's name, and returns how many bytes it has: the name's length, behind the count of
  * the names if it is that of a column. An item has no name. */
 static size_t fill_front(const mysql_params_form *form, size_t name_len, uint8_t front[COUNT_ROOM + LENGTH_ROOM])
 {
-    bool is_column = form->list_of == OF_ASSIGNMENTS;
-    if (form->list_at > 0 && !is_column)
+    bool is_column = form->state == IN_ASSIGNMENTS;
+    if (form->state != OUTSIDE && !is_column)
         return 0;
     size_t count_len = is_column ? COUNT_ROOM : 0;
     fill_number(front, count_len, 1);
     return count_len + fill_length(front + count_len, name_len);
 }
 
-/* Appends a parameter: name, type, flags, then `head` and `tail`, which are its value in binary form. An item of a list has
- * no name, and that of an assignment is its column's. */
-static bool append_parameter(mysql_params_form *form, const char *name, uint8_t type, uint8_t flags,
+/* Appends a parameter, or the beginning of one: name, type, flags, then `head` and `tail`, which are its value in binary form.
+ * An item of a list has no name, and that of an assignment is its column's. */
+static void append_beginning(mysql_params_form *form, const char *name, uint8_t type, uint8_t flags,
                              const uint8_t *head, size_t head_len, const void *tail, size_t tail_len)
 {
     uint8_t front[COUNT_ROOM + LENGTH_ROOM];
-    bool has_name = form->list_at == 0 || form->list_of == OF_ASSIGNMENTS;
+    bool has_name = form->state == OUTSIDE || form->state == IN_ASSIGNMENTS;
     size_t name_len = name == NULL || !has_name ? 0 : strlen(name);
     size_t front_len = fill_front(form, name_len, front);
-    if (!is_taken(form, type))
-        return append_nothing(form);
-    if (form->list_at > 0)
-        form->items++;
-    if (form->list_of == OF_COLUMN)
-        form->list_of = OF_ASSIGNMENTS;
+    if (!is_taken(form, type) || !counts_item(form)) {
+        append_nothing(form);
+        return;
+    }
+    if (form->state == AT_ITEM)
+        form->state = IN_ASSIGNMENTS;
     if (!makes_room(form, sum(sum(front_len + 2 + head_len, name_len), tail_len)))
-        return false;
+        return;
     const uint8_t type_and_flags[2] = {type, flags};
     append(form, front, front_len);
     append(form, name, name_len);
     append(form, type_and_flags, 2);
     append(form, head, head_len);
     append(form, tail, tail_len);
-    return true;
+}
+
+/* Appends a whole parameter. */
+static bool append_parameter(mysql_params_form *form, const char *name, uint8_t type, uint8_t flags,
+                             const uint8_t *head, size_t head_len, const void *tail, size_t tail_len)
+{
+    append_beginning(form, name, type, flags, head, head_len, tail, tail_len);
+    return commit(form);
 }
 
 bool mysql_params_append_null(mysql_params_form *form, const char *name)
@@ -280,37 +335,42 @@ bool mysql_params_append_decimal(mysql_params_form *form, const char *name, cons
     return append_string(form, name, TYPE_NUMBER, digits);
 }
 
-/* Appends the count of names, and these. */
-static bool append_names(mysql_params_form *form, const char *const *names, uint32_t count)
+/* Appends a count. */
+static void append_count(mysql_params_form *form, uint32_t count)
 {
     uint8_t number[COUNT_ROOM];
     fill_number(number, COUNT_ROOM, count);
-    bool fits = makes_room(form, COUNT_ROOM);
-    if (fits)
+    if (makes_room(form, COUNT_ROOM))
         append(form, number, COUNT_ROOM);
+}
+
+/* Appends the count of names, and these. */
+static void append_names(mysql_params_form *form, const char *const *names, uint32_t count)
+{
+    append_count(form, count);
     for (uint32_t i = 0; i < count; i++) {
         uint8_t length[LENGTH_ROOM];
         size_t len = strlen(names[i]);
         size_t length_len = fill_length(length, len);
-        fits = makes_room(form, sum(length_len, len));
-        if (fits) {
+        if (makes_room(form, sum(length_len, len))) {
             append(form, length, length_len);
             append(form, names[i], len);
         }
     }
-    return fits;
 }
 
 /* Appends the names of an identifier to identifiers. */
 static bool append_to_identifiers(mysql_params_form *form, const char *const *names, uint32_t count)
 {
-    form->items++;
-    return append_names(form, names, count);
+    if (!counts_item(form))
+        return append_nothing(form);
+    append_names(form, names, count);
+    return commit(form);
 }
 
 bool mysql_params_append_identifier(mysql_params_form *form, const char *name, const char *identifier)
 {
-    if (form->list_of == OF_IDENTIFIERS)
+    if (form->state == IN_IDENTIFIERS)
         return append_to_identifiers(form, &identifier, 1);
     return append_string(form, name, TYPE_IDENTIFIER, identifier);
 }
@@ -323,130 +383,142 @@ bool mysql_params_append_keyword(mysql_params_form *form, const char *name, cons
 bool mysql_params_append_qualified(mysql_params_form *form, const char *name, const char *const *identifiers,
                                    uint32_t count)
 {
-    if (form->list_of == OF_IDENTIFIERS)
+    if (form->state == IN_IDENTIFIERS)
         return append_to_identifiers(form, identifiers, count);
-    append_parameter(form, name, TYPE_QUALIFIED, 0, NULL, 0, NULL, 0);
-    return append_names(form, identifiers, count);
+    append_beginning(form, name, TYPE_QUALIFIED, 0, NULL, 0, NULL, 0);
+    append_names(form, identifiers, count);
+    return commit(form);
 }
 
-/* Where the count that was appended last stands. If it didn't fit, it is past the room, and never written. */
+/* Where the count that was appended last stands, if all fits. */
 static size_t count_place(const mysql_params_form *form)
 {
-    return form->needed == SIZE_MAX ? SIZE_MAX : form->needed - 4;
+    return form->needed - COUNT_ROOM;
 }
 
-/* Writes a count into its place, if the form is whole. */
-static bool fill_count(mysql_params_form *form, size_t at, uint32_t count)
+/* Writes a count into its place, if all fits. */
+static void fill_count(mysql_params_form *form, size_t at, uint32_t count)
 {
-    bool fits = form->needed == form->len;
-    if (fits && at > 0)
-        fill_number(form->room + at, 4, count);
-    return fits;
+    if (fits(form))
+        fill_number(form->room + at, COUNT_ROOM, count);
 }
 
-/* Appends a parameter of a type with a count that isn't known yet. No list and no rows stand in a list. */
-static bool append_counted(mysql_params_form *form, const char *name, uint8_t type)
+/* Appends the beginning of a parameter of a type, whose count isn't known yet. None stands in another. */
+static bool begin(mysql_params_form *form, const char *name, uint8_t type, uint32_t state)
 {
     const uint8_t count[COUNT_ROOM] = {0, 0, 0, 0};
-    if (form->list_at > 0)
+    if (form->state != OUTSIDE)
         return append_nothing(form);
-    return append_parameter(form, name, type, 0, count, COUNT_ROOM, NULL, 0);
+    append_beginning(form, name, type, 0, count, COUNT_ROOM, NULL, 0);
+    form->state = state;
+    return commit(form);
 }
 
-/* Begins a list of a type, and has what is appended stand in it. */
-static bool begin_list_of(mysql_params_form *form, const char *name, uint8_t type, uint32_t list_of)
+/* Begins what holds items. */
+static bool begin_list_of(mysql_params_form *form, const char *name, uint8_t type, uint32_t state)
 {
-    bool fits = append_counted(form, name, type);
+    bool begun = begin(form, name, type, state);
     form->list_at = count_place(form);
-    form->list_of = list_of;
     form->items = 0;
-    return fits;
+    return begun;
+}
+
+/* Ends what holds items and is open, with what comes after it. */
+static bool end_list_of(mysql_params_form *form, uint32_t open, uint32_t next)
+{
+    if (form->state != open)
+        return append_nothing(form);
+    fill_count(form, form->list_at, form->items);
+    form->state = next;
+    return commit(form);
 }
 
 bool mysql_params_begin_list(mysql_params_form *form, const char *name)
 {
-    return begin_list_of(form, name, TYPE_LIST, OF_ITEMS);
+    return begin_list_of(form, name, TYPE_LIST, IN_LIST);
 }
 
 bool mysql_params_end_list(mysql_params_form *form)
 {
-    if (form->list_of == OF_COLUMN)
-        append_nothing(form);
-    bool fits = fill_count(form, form->list_at, form->items);
-    form->list_at = 0;
-    form->list_of = OF_ITEMS;
-    return fits;
+    return end_list_of(form, IN_LIST, OUTSIDE);
 }
 
 bool mysql_params_begin_identifiers(mysql_params_form *form, const char *name)
 {
-    return begin_list_of(form, name, TYPE_IDENTIFIERS, OF_IDENTIFIERS);
+    return begin_list_of(form, name, TYPE_IDENTIFIERS, IN_IDENTIFIERS);
 }
 
 bool mysql_params_end_identifiers(mysql_params_form *form)
 {
-    return mysql_params_end_list(form);
+    return end_list_of(form, IN_IDENTIFIERS, OUTSIDE);
 }
 
 bool mysql_params_begin_assignments(mysql_params_form *form, const char *name)
 {
-    return begin_list_of(form, name, TYPE_ASSIGNMENTS, OF_ASSIGNMENTS);
+    return begin_list_of(form, name, TYPE_ASSIGNMENTS, IN_ASSIGNMENTS);
 }
 
 bool mysql_params_begin_assignment(mysql_params_form *form, const char *const *identifiers, uint32_t count)
 {
-    if (form->list_of != OF_ASSIGNMENTS)
+    if (form->state != IN_ASSIGNMENTS)
         return append_nothing(form);
-    form->list_of = OF_COLUMN;
-    return append_names(form, identifiers, count);
+    form->state = AT_ITEM;
+    append_names(form, identifiers, count);
+    return commit(form);
 }
 
 bool mysql_params_end_assignments(mysql_params_form *form)
 {
-    return mysql_params_end_list(form);
+    return end_list_of(form, IN_ASSIGNMENTS, OUTSIDE);
 }
 
 bool mysql_params_begin_rows(mysql_params_form *form, const char *name)
 {
-    bool fits = append_counted(form, name, TYPE_ROWS);
+    bool begun = begin(form, name, TYPE_ROWS, IN_ROWS);
     form->rows_at = count_place(form);
     form->rows = 0;
-    return fits;
+    return begun;
 }
 
 bool mysql_params_begin_row(mysql_params_form *form)
 {
-    const uint8_t count[COUNT_ROOM] = {0, 0, 0, 0};
-    bool fits = makes_room(form, COUNT_ROOM);
-    if (fits)
-        append(form, count, COUNT_ROOM);
+    if (form->state != IN_ROWS || form->rows == UINT32_MAX)
+        return append_nothing(form);
+    append_count(form, 0);
     form->list_at = count_place(form);
     form->items = 0;
     form->rows++;
-    return fits;
+    form->state = IN_ROW;
+    return commit(form);
 }
 
 bool mysql_params_end_row(mysql_params_form *form)
 {
-    return mysql_params_end_list(form);
+    return end_list_of(form, IN_ROW, IN_ROWS);
 }
 
 bool mysql_params_end_rows(mysql_params_form *form)
 {
-    bool fits = fill_count(form, form->rows_at, form->rows);
-    form->rows_at = 0;
-    return fits;
+    if (form->state != IN_ROWS)
+        return append_nothing(form);
+    fill_count(form, form->rows_at, form->rows);
+    form->state = OUTSIDE;
+    return commit(form);
 }
 
 bool mysql_params_append_row(mysql_params_form *forms, const mysql_params_form *row)
 {
     uint8_t length[LENGTH_ROOM];
     size_t length_len = fill_length(length, row->len);
-    if (!makes_room(forms, row->needed == row->len ? sum(length_len, row->len) : SIZE_MAX))
-        return false;
-    append(forms, length, length_len);
-    append(forms, row->room, row->len);
-    return true;
+    bool is_empty = forms->state == OUTSIDE && forms->needed == 0;
+    if (!(is_empty || forms->state == AMONG_FORMS) || !is_whole(row))
+        return append_nothing(forms);
+    forms->state = AMONG_FORMS;
+    if (makes_room(forms, sum(length_len, row->len))) {
+        append(forms, length, length_len);
+        append(forms, row->room, row->len);
+    }
+    return commit(forms);
 }
 
 /* The least memory that texts ask for. */
@@ -898,7 +970,7 @@ static int32_t bind_into_memory(bind_call *bind, const uint8_t *query, size_t qu
     size_t room_len = sum(sum(query_len, sum(form->len, form->len)), 64);
     *text = NULL;
     *report = nothing;
-    if (form->needed != form->len)
+    if (!is_whole(form))
         return MYSQL_PARAMS_OUT_OF_MEMORY;
     for (;;) {
         uint8_t *room = room_len > PTRDIFF_MAX ? NULL : (uint8_t *)malloc(room_len);

@@ -18,20 +18,23 @@ typedef struct mysql_params_form {
     uint8_t *room;
     /* Bytes of that memory. */
     size_t room_len;
-    /* Bytes of the form so far: hand `room` and `len` to mysql_params_bind once `needed` is `len`. */
+    /* Bytes of the whole parameters so far: hand `room` and `len` to mysql_params_bind once `needed` is `len`. A list, rows,
+     * identifiers and assignments are whole once they are ended. */
     size_t len;
-    /* Bytes that all appended parameters need; SIZE_MAX if that is too many to count, or not known of a row, or if
-     * something was appended where it can't stand. It is greater than `len` once a parameter did not fit. */
+    /* Bytes that all that was appended needs. It is greater than `len` while a list is open, and once a parameter did not
+     * fit. It is SIZE_MAX, and stays so, if that is too many to count, or not known of a row, or if a function was called
+     * where what it appends, begins or ends can't stand: an item between rows, say, or the 2^32nd of a list. */
     size_t needed;
     /* Whether the memory is the form's own, of `malloc`, and grows. */
     bool grows;
-    /* The functions' own: where the counts of the rows and of the list that are open stand, and what is in them; 0 if none
-     * is open, since no count stands at the front. Identifiers and assignments are lists too: `list_of` tells. */
+    /* The functions' own: the bytes that are written, those of an open list too; where the counts of the rows and of the list
+     * that are open stand, and what is in them; and where the next part stands. */
+    size_t written;
     size_t rows_at;
     size_t list_at;
     uint32_t rows;
     uint32_t items;
-    uint32_t list_of;
+    uint32_t state;
 } mysql_params_form;
 
 /* A date with its time of day. Fields stand in the literal as they are, also a month 0 or 255; a time of day that is all
@@ -69,7 +72,8 @@ void mysql_params_form_free(mysql_params_form *form);
 
 /* The functions below append one parameter. `name` is the name without a colon, ended by a zero byte; null or "" gives
  * the parameter by position. Each returns true if this and all earlier parameters stand in the room. Else it has
- * written nothing, and later calls write nothing either: they go on counting `needed`.
+ * written nothing, and later calls write nothing either: they go on counting `needed`. Behind `len` the room may hold the
+ * beginning of a list.
  *
  * Neither the name nor the bytes nor the text may overlap the room: other bytes would be appended without a word. To
  * append what was read into the room, as from a socket, give the form another room. */
@@ -121,13 +125,14 @@ bool mysql_params_append_qualified(mysql_params_form *form, const char *name, co
  * outside. For another word choose among queries of your program. */
 bool mysql_params_append_keyword(mysql_params_form *form, const char *name, const char *keyword);
 
-/* Begins a list. Then append its items by the functions above, without a name, and end it. No list fits in a list. */
+/* Begins a list. Then append its items by the functions above, without a name, and end it. Nothing that is begun stands in a
+ * list. */
 bool mysql_params_begin_list(mysql_params_form *form, const char *name);
 
 /* Ends a list. */
 bool mysql_params_end_list(mysql_params_form *form);
 
-/* Begins rows. Then begin each row, append its items, and end it; then end the rows. */
+/* Begins rows. Then begin each row, append its items, and end it; then end the rows. No item stands between rows. */
 bool mysql_params_begin_rows(mysql_params_form *form, const char *name);
 
 /* Begins a row. */
@@ -140,7 +145,7 @@ bool mysql_params_end_row(mysql_params_form *form);
 bool mysql_params_end_rows(mysql_params_form *form);
 
 /* Begins identifiers, as the columns of `INSERT INTO t (?)`. Then append each by mysql_params_append_identifier or
- * mysql_params_append_qualified, without a name, and end them. Nothing else fits there. */
+ * mysql_params_append_qualified, without a name, and end them. Nothing else can stand there. */
 bool mysql_params_begin_identifiers(mysql_params_form *form, const char *name);
 
 /* Ends identifiers. */
@@ -154,14 +159,14 @@ bool mysql_params_end_identifiers(mysql_params_form *form);
  *     mysql_params_append_null(&form, "sold");
  *     mysql_params_end_assignments(&form);
  *
- * writes `price` = 7, `sold` = NULL. Nothing else fits there. */
+ * writes `price` = 7, `sold` = NULL. Nothing else can stand there. */
 bool mysql_params_begin_assignments(mysql_params_form *form, const char *name);
 
 /* Names the column that the next item is assigned to, as a column of a table: `count` names, of which the last is its own.
  * The item's `name` isn't looked at. */
 bool mysql_params_begin_assignment(mysql_params_form *form, const char *const *identifiers, uint32_t count);
 
-/* Ends assignments. A column without an item doesn't fit. */
+/* Ends assignments. No column stands without an item. */
 bool mysql_params_end_assignments(mysql_params_form *form);
 
 /* Binds as mysql_params_bind_fragments, as mysql_params_bind_form binds by mysql_params_bind. */
@@ -174,9 +179,9 @@ int32_t mysql_params_bind_fragments_anywhere_form(const uint8_t *query, size_t q
 
 /* Binds as mysql_params_bind, into memory of `malloc`: `*text` gets the text, `report->len` bytes and a zero byte after
  * them, which the caller gives back by `free`; null unless the number is MYSQL_PARAMS_DONE. It never returns
- * MYSQL_PARAMS_ROOM. It returns MYSQL_PARAMS_OUT_OF_MEMORY also if a parameter didn't fit the form, so that what the
- * appending functions return needn't be looked at. A text may hold zero bytes without backslash escapes: go by the
- * length. */
+ * MYSQL_PARAMS_ROOM. It returns MYSQL_PARAMS_OUT_OF_MEMORY also, without reading the form, if `needed` isn't `len` or the
+ * form has rows of mysql_params_append_row, so that what the appending functions return needn't be looked at. A text may
+ * hold zero bytes without backslash escapes: go by the length. */
 int32_t mysql_params_bind_form(const uint8_t *query, size_t query_len, const mysql_params_form *form,
                                bool no_backslash_escape, char **text, mysql_params_report *report);
 
@@ -225,8 +230,8 @@ int32_t mysql_params_bind_fragments_anywhere_form_wide(const uint8_t *query, siz
 mysql_params_template *mysql_params_template_new_wide(const uint8_t *query, size_t query_len, bool no_backslash_escape);
 
 /* Appends a row to the forms of mysql_params_bind_rows: a form as a length-encoded string. `forms` is set up as a form is,
- * and has nothing else appended. Returns as the functions above. It appends no row that lacks a parameter, whose own
- * `needed` isn't its `len`: then `needed` of `forms` is SIZE_MAX. The row doesn't overlap the room. */
+ * and has nothing else appended: a parameter can't stand there. Returns as the functions above. It appends no row that isn't
+ * whole, whose own `needed` isn't its `len`: then `needed` of `forms` is SIZE_MAX. The row doesn't overlap the room. */
 bool mysql_params_append_row(mysql_params_form *forms, const mysql_params_form *row);
 
 /* Texts in memory that grows, one after another, each as a length-encoded string. Begin with `= {0}`, and end with

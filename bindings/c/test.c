@@ -1060,8 +1060,8 @@ static void forms_of_lists(void)
         it.line = (int)len;
         memset(room, UNTOUCHED, sizeof room);
         mysql_params_form cut = mysql_params_form_in(room, len);
-        expect(!append_lists(&cut, 3) && cut.needed == form.needed, &it, "another need is wanted");
-        expect(is_untouched(room, cut.len, sizeof room), &it, "the room is written after what fits");
+        expect(!append_lists(&cut, 3) && cut.needed == form.needed && cut.len <= len, &it, "another need is wanted");
+        expect(is_untouched(room, cut.written, sizeof room), &it, "the room is written after what fits");
         number = mysql_params_bind_fragments_form(query, sizeof query - 1, &cut, false, &text, &report);
         expect(number == MYSQL_PARAMS_OUT_OF_MEMORY && text == NULL, &it, "a cut form is bound");
     }
@@ -1135,7 +1135,8 @@ static void forms_of_assignments(void)
         memset(room, UNTOUCHED, sizeof room);
         mysql_params_form cut = mysql_params_form_in(room, len);
         expect(!append_columns(&cut) && cut.needed == LEN && cut.len <= len, &it, "another need is wanted");
-        expect(is_untouched(room, cut.len, sizeof room), &it, "the room is written after what fits");
+        expect(is_untouched(room, cut.written, sizeof room), &it, "the room is written after what fits");
+        expect(cut.len == (len < COLUMNS_END ? 0 : COLUMNS_END), &it, "a part of a parameter is in the form");
         number = mysql_params_bind_fragments_form(query, sizeof query - 1, &cut, false, &text, &report);
         expect(number == MYSQL_PARAMS_OUT_OF_MEMORY && text == NULL, &it, "a cut form is bound");
         uint8_t *exact = exact_copy((bytes){(uint8_t *)columns_form, len});

@@ -459,7 +459,7 @@ static Form form_of(std::string_view flat)
     if (inner.room == nullptr)
         throw std::bad_alloc();
     std::memcpy(inner.room, flat.data(), flat.size());
-    inner.room_len = inner.len = inner.needed = flat.size();
+    inner.room_len = inner.len = inner.needed = inner.written = flat.size();
     return form;
 }
 
