@@ -957,13 +957,13 @@ const char *mysql_params_construct_message(int32_t construct)
     }
 }
 
-/* A call that binds by a mode. */
-typedef int32_t bind_call(const uint8_t *query, size_t query_len, const uint8_t *form, size_t form_len,
-                          bool no_backslash_escape, uint8_t *room, size_t room_len, mysql_params_report *report);
+/* Binds a form to what the context says. */
+typedef int32_t bind_call(const void *context, const mysql_params_form *form, uint8_t *room, size_t room_len,
+                          mysql_params_report *report);
 
-/* Binds by a call, into memory of malloc. */
-static int32_t bind_into_memory(bind_call *bind, const uint8_t *query, size_t query_len, const mysql_params_form *form,
-                                bool no_backslash_escape, char **text, mysql_params_report *report)
+/* Binds by such a call, into memory of malloc, to a query of a length. */
+static int32_t bind_into_memory(bind_call *bind, const void *context, size_t query_len, const mysql_params_form *form,
+                                char **text, mysql_params_report *report)
 {
     mysql_params_report nothing = {0, 0, 0, 0, 0, 0};
     /* A literal of bytes has at most twice their number, and quotes; and the zero byte. */
@@ -977,7 +977,7 @@ static int32_t bind_into_memory(bind_call *bind, const uint8_t *query, size_t qu
         if (room == NULL)
             return MYSQL_PARAMS_OUT_OF_MEMORY;
         memset(room, 0, room_len);
-        int32_t number = bind(query, query_len, form->room, form->len, no_backslash_escape, room, room_len - 1, report);
+        int32_t number = bind(context, form, room, room_len - 1, report);
         if (number == MYSQL_PARAMS_DONE) {
             *text = (char *)room;
             return number;
@@ -990,57 +990,80 @@ static int32_t bind_into_memory(bind_call *bind, const uint8_t *query, size_t qu
     }
 }
 
+/* A query, its mode, and the call of the archive that binds to it. */
+typedef struct in_a_mode {
+    int32_t (*bind)(const uint8_t *query, size_t query_len, const uint8_t *form, size_t form_len, bool no_backslash_escape,
+                    uint8_t *room, size_t room_len, mysql_params_report *report);
+    const uint8_t *query;
+    size_t query_len;
+    bool no_backslash_escape;
+} in_a_mode;
+
+/* Binds to a query in its mode, to which the context points. */
+static int32_t bind_in_a_mode(const void *context, const mysql_params_form *form, uint8_t *room, size_t room_len,
+                              mysql_params_report *report)
+{
+    const in_a_mode *to = (const in_a_mode *)context;
+    return to->bind(to->query, to->query_len, form->room, form->len, to->no_backslash_escape, room, room_len, report);
+}
+
 int32_t mysql_params_bind_form(const uint8_t *query, size_t query_len, const mysql_params_form *form,
                                bool no_backslash_escape, char **text, mysql_params_report *report)
 {
-    return bind_into_memory(mysql_params_bind, query, query_len, form, no_backslash_escape, text, report);
+    const in_a_mode to = {mysql_params_bind, query, query_len, no_backslash_escape};
+    return bind_into_memory(bind_in_a_mode, &to, query_len, form, text, report);
 }
 
 int32_t mysql_params_bind_form_wide(const uint8_t *query, size_t query_len, const mysql_params_form *form,
                                     bool no_backslash_escape, char **text, mysql_params_report *report)
 {
-    return bind_into_memory(mysql_params_bind_wide, query, query_len, form, no_backslash_escape, text, report);
+    const in_a_mode to = {mysql_params_bind_wide, query, query_len, no_backslash_escape};
+    return bind_into_memory(bind_in_a_mode, &to, query_len, form, text, report);
 }
 
 int32_t mysql_params_bind_fragments_form(const uint8_t *query, size_t query_len, const mysql_params_form *form,
                                          bool no_backslash_escape, char **text, mysql_params_report *report)
 {
-    return bind_into_memory(mysql_params_bind_fragments, query, query_len, form, no_backslash_escape, text, report);
+    const in_a_mode to = {mysql_params_bind_fragments, query, query_len, no_backslash_escape};
+    return bind_into_memory(bind_in_a_mode, &to, query_len, form, text, report);
 }
 
 int32_t mysql_params_bind_fragments_form_wide(const uint8_t *query, size_t query_len, const mysql_params_form *form,
                                               bool no_backslash_escape, char **text, mysql_params_report *report)
 {
-    return bind_into_memory(mysql_params_bind_fragments_wide, query, query_len, form, no_backslash_escape, text, report);
+    const in_a_mode to = {mysql_params_bind_fragments_wide, query, query_len, no_backslash_escape};
+    return bind_into_memory(bind_in_a_mode, &to, query_len, form, text, report);
 }
 
-/* As mysql_params_bind_fragments_anywhere; the mode is not looked at. */
-static int32_t bind_in_no_mode(const uint8_t *query, size_t query_len, const uint8_t *form, size_t form_len,
-                               bool no_backslash_escape, uint8_t *room, size_t room_len, mysql_params_report *report)
+/* A query, and the call of the archive that binds to it for any server. */
+typedef struct for_any_server {
+    int32_t (*bind)(const uint8_t *query, size_t query_len, const uint8_t *form, size_t form_len, uint8_t *room,
+                    size_t room_len, mysql_params_report *report);
+    const uint8_t *query;
+    size_t query_len;
+} for_any_server;
+
+/* Binds to a query for any server, to which the context points. */
+static int32_t bind_for_any_server(const void *context, const mysql_params_form *form, uint8_t *room, size_t room_len,
+                                   mysql_params_report *report)
 {
-    (void)no_backslash_escape;
-    return mysql_params_bind_fragments_anywhere(query, query_len, form, form_len, room, room_len, report);
+    const for_any_server *to = (const for_any_server *)context;
+    return to->bind(to->query, to->query_len, form->room, form->len, room, room_len, report);
 }
 
 int32_t mysql_params_bind_fragments_anywhere_form(const uint8_t *query, size_t query_len, const mysql_params_form *form,
                                                   char **text, mysql_params_report *report)
 {
-    return bind_into_memory(bind_in_no_mode, query, query_len, form, false, text, report);
-}
-
-/* As mysql_params_bind_fragments_anywhere_wide; the mode is not looked at. */
-static int32_t bind_wide_in_no_mode(const uint8_t *query, size_t query_len, const uint8_t *form, size_t form_len,
-                                    bool no_backslash_escape, uint8_t *room, size_t room_len, mysql_params_report *report)
-{
-    (void)no_backslash_escape;
-    return mysql_params_bind_fragments_anywhere_wide(query, query_len, form, form_len, room, room_len, report);
+    const for_any_server to = {mysql_params_bind_fragments_anywhere, query, query_len};
+    return bind_into_memory(bind_for_any_server, &to, query_len, form, text, report);
 }
 
 int32_t mysql_params_bind_fragments_anywhere_form_wide(const uint8_t *query, size_t query_len,
                                                        const mysql_params_form *form, char **text,
                                                        mysql_params_report *report)
 {
-    return bind_into_memory(bind_wide_in_no_mode, query, query_len, form, false, text, report);
+    const for_any_server to = {mysql_params_bind_fragments_anywhere_wide, query, query_len};
+    return bind_into_memory(bind_for_any_server, &to, query_len, form, text, report);
 }
 
 /* A query and its tables, in one block: the places of both and the query's bytes follow the fields. */
@@ -1165,22 +1188,17 @@ int32_t mysql_params_template_bind_anywhere(const mysql_params_template *made, c
     return mysql_params_bind_anywhere(query, made->query_len, form, form_len, room, room_len, report);
 }
 
-/* Binds to a template, to which `query` points. */
-static int32_t bind_made(const uint8_t *query, size_t query_len, const uint8_t *form, size_t form_len,
-                         bool no_backslash_escape, uint8_t *room, size_t room_len, mysql_params_report *report)
+/* Binds to a template, to which the context points. */
+static int32_t bind_made(const void *context, const mysql_params_form *form, uint8_t *room, size_t room_len,
+                         mysql_params_report *report)
 {
-    const void *made = query;
-    (void)query_len;
-    (void)no_backslash_escape;
-    return mysql_params_template_bind((const mysql_params_template *)made, form, form_len, room, room_len, report);
+    return mysql_params_template_bind((const mysql_params_template *)context, form->room, form->len, room, room_len, report);
 }
 
 int32_t mysql_params_template_bind_form(const mysql_params_template *made, const mysql_params_form *form, char **text,
                                         mysql_params_report *report)
 {
-    const void *as_query = made;
-    return bind_into_memory(bind_made, (const uint8_t *)as_query, made->query_len, form, made->no_backslash_escape, text,
-                            report);
+    return bind_into_memory(bind_made, made, made->query_len, form, text, report);
 }
 
 int32_t mysql_params_template_bind_rows(const mysql_params_template *made, const uint8_t *forms, size_t forms_len,
