@@ -96,6 +96,27 @@ inline constexpr bool is_number = std::is_integral_v<T> && !is_character<T> && s
 /* Whether a double has each value of the type. */
 template <typename T> inline constexpr bool is_double = std::is_same_v<T, double> || std::is_same_v<T, float>;
 
+template <typename T>
+inline constexpr bool is_text = std::is_convertible_v<const T &, std::string_view> &&
+                                !std::is_convertible_v<const T &, const char *>;
+
+/* The text that a zero byte ends. Throws std::invalid_argument if the pointer is null. */
+inline std::string_view ended(const char *text)
+{
+    if (text == nullptr)
+        throw std::invalid_argument("mysql_params: a text is a null pointer: nullptr itself is NULL");
+    return text;
+}
+
+/* A copy of one text. Of a brace too many, as {{"shop", "t"}}, a std::string would be made of the bytes from one pointer to
+ * the other: this doesn't compile. */
+struct Text {
+    Text(const char *text) : string(ended(text)) {}
+    template <typename T, std::enable_if_t<is_text<T>, int> = 0> Text(const T &text) : string(std::string_view(text)) {}
+    Text(const char *, const char *) = delete;
+    std::string string;
+};
+
 } // namespace detail
 
 /* An exact number, as Decimal("-1.50") or a whole number of any length. It borrows its digits, as a Value its bytes. */
@@ -132,7 +153,7 @@ public:
     Value(std::string_view text) noexcept : held_(text) {}
     Value(const std::string &text) noexcept : held_(std::string_view(text)) {}
     /* A text that a zero byte ends. Throws std::invalid_argument if the pointer is null. */
-    Value(const char *text) : held_(text == nullptr ? refuse_null() : std::string_view(text)) {}
+    Value(const char *text) : held_(detail::ended(text)) {}
     Value(const std::vector<std::uint8_t> &bytes) noexcept
         : held_(std::string_view(reinterpret_cast<const char *>(bytes.data()), bytes.size()))
     {
@@ -147,10 +168,6 @@ public:
 
 private:
     friend class Form;
-    [[noreturn]] static std::string_view refuse_null()
-    {
-        throw std::invalid_argument("mysql_params: a text is a null pointer: nullptr itself is NULL");
-    }
     std::variant<std::monostate, std::int64_t, std::uint64_t, double, std::string_view, mysql_params_date,
                  mysql_params_time, Decimal>
         held_;
@@ -158,10 +175,15 @@ private:
 
 /* The name of a column, as "price", or with the names of what it is in before it, as {"item", "price"}. It owns them. */
 struct Column {
-    Column(const char *name) : names{name} {}
-    Column(std::string_view name) : names{std::string(name)} {}
-    Column(const std::string &name) : names{name} {}
-    Column(std::initializer_list<std::string> parts) : names(parts) {}
+    template <typename T, std::enable_if_t<std::is_convertible_v<const T &, detail::Text>, int> = 0>
+    Column(const T &name) : names{detail::Text(name).string}
+    {
+    }
+    Column(std::initializer_list<detail::Text> parts)
+    {
+        for (const detail::Text &part : parts)
+            names.push_back(part.string);
+    }
     Column(std::vector<std::string> parts) noexcept : names(std::move(parts)) {}
     std::vector<std::string> names;
 };
@@ -203,19 +225,19 @@ public:
     Form &append(const Value &value) { return append_as(nullptr, value); }
     /* Those below append what bind_fragments and bind_fragments_anywhere alone take; in order if the name is null. An exact
      * number, as "-1.50". */
-    Form &append_decimal(const char *name, const std::string &digits)
+    Form &append_decimal(const char *name, const detail::Text &digits)
     {
-        return append_as(name, Decimal(digits));
+        return append_as(name, Decimal(digits.string));
     }
     /* The name of a table or a column. */
-    Form &append_identifier(const char *name, const std::string &identifier)
+    Form &append_identifier(const char *name, const detail::Text &identifier)
     {
-        return fitting(mysql_params_append_identifier(&form_, name, whole(identifier)));
+        return fitting(mysql_params_append_identifier(&form_, name, whole(identifier.string)));
     }
     /* The name of what is in something else, as {"shop", "t"} of a table in a database. */
-    Form &append_qualified(const char *name, const std::vector<std::string> &identifiers)
+    Form &append_qualified(const char *name, const Column &identifiers)
     {
-        const std::vector<const char *> texts = texts_of(identifiers);
+        const std::vector<const char *> texts = texts_of(identifiers.names);
         return fitting(mysql_params_append_qualified(&form_, name, texts.data(), static_cast<std::uint32_t>(texts.size())));
     }
     /* A keyword that the program has, as "DESC": never a text from outside. */
@@ -253,7 +275,7 @@ public:
         return appending([&] {
             mysql_params_begin_identifiers(&form_, name);
             for (const auto &column : columns)
-                append_qualified(nullptr, Column(column).names);
+                append_qualified(nullptr, Column(column));
             fitting(mysql_params_end_identifiers(&form_));
         });
     }
@@ -368,11 +390,19 @@ inline void need_processor()
     throw Error(number, report, line);
 }
 
+/* So many zero bytes. Throws std::bad_alloc if no string is so long. */
+inline std::string zeros(std::size_t count)
+{
+    if (count > std::string().max_size())
+        throw std::bad_alloc();
+    return std::string(count, '\0');
+}
+
 /* The whole answer of a call: in a room of a guessed length, and again in one of the length that it needs. */
 template <typename Call> std::string whole_answer(std::size_t guess, Call call)
 {
     need_processor();
-    std::string room(guess, '\0');
+    std::string room = zeros(guess);
     for (;;) {
         mysql_params_report report{};
         const std::int32_t number = call(reinterpret_cast<std::uint8_t *>(room.data()), room.size(), &report);
@@ -382,7 +412,7 @@ template <typename Call> std::string whole_answer(std::size_t guess, Call call)
         }
         if (number != MYSQL_PARAMS_ROOM)
             call.refuse(number, report);
-        room.assign(report.len, '\0');
+        room = zeros(report.len);
     }
 }
 

@@ -65,6 +65,25 @@ static_assert(!std::is_copy_constructible_v<Template> && !std::is_copy_assignabl
 static_assert(std::is_nothrow_move_constructible_v<Template> && std::is_nothrow_move_assignable_v<Template>);
 static_assert(std::is_nothrow_copy_constructible_v<RowError>);
 
+/* Whether a member of Form can be called so. */
+#define CAN_CALL(...) is_callable([](auto &form) -> decltype(form.__VA_ARGS__, void()) {})
+
+template <typename Call> static constexpr bool is_callable(Call)
+{
+    return std::is_invocable_v<Call, Form &>;
+}
+
+static_assert(CAN_CALL(append_qualified("a", {"t", "b"})) && CAN_CALL(append_identifiers("a", {{"t", "b"}})));
+static_assert(CAN_CALL(append_identifier("a", {"t"})) && CAN_CALL(append_decimal("a", {"1.5"})));
+static_assert(CAN_CALL(append_assignments("a", {{{"t", "b"}, 1}})));
+/* A brace too many would make a string of the bytes from one pointer to the other. */
+static_assert(!CAN_CALL(append_qualified("a", {{"t", "b"}})) && !CAN_CALL(append_identifiers("a", {{{"t", "b"}}})));
+static_assert(!CAN_CALL(append_identifiers("a", {"x", {{"t", "b"}}})));
+static_assert(!CAN_CALL(append_identifier("a", {"t", "b"})) && !CAN_CALL(append_identifier("a", {{"t", "b"}})));
+static_assert(!CAN_CALL(append_decimal("a", {"1.5", "2"})) && !CAN_CALL(append_decimal("a", {{"1.5", "2"}})));
+static_assert(!CAN_CALL(append_assignments("a", {{{{"t", "b"}}, 1}})));
+static_assert(!CAN_CALL(append("a", {"t", "b"})) && !CAN_CALL(append("a", {{"t", "b"}})));
+
 static void values()
 {
     same(bind("?, ?, ?", {42, -1, true}), "42, -1, 1");
@@ -182,7 +201,8 @@ static void exact_numbers_and_names()
     mysql_params::Form form;
     form.append_rows("rows", std::vector<std::vector<Value>>{{1, "a", Decimal("9.99")}, {2, "b", nullptr}});
     form.append_list("prices", std::vector<Decimal>{Decimal("0.10"), Decimal("7")});
-    form.append_qualified("t", {"shop", "acme`2"});
+    form.append_qualified("t", {"shop", "acme`2"}).append_qualified("in", std::vector<std::string>{"shop", "t"});
+    same(bind_fragments(":in", form), "`shop`.`t`");
     same(bind_fragments(":t :rows IN (:prices)", form), "`shop`.`acme``2` (1, 'a', 9.99), (2, 'b', NULL) IN (0.10, 7)");
     same(mysql_params::bind_fragments_anywhere("?", {Decimal("0.5")}), "0.5");
     same(thrown([] { bind("?", {Decimal("1.5")}); }), "5 Parameter 0 at byte 0 of the form: Unsupported column type 128");
@@ -227,6 +247,7 @@ static void identifiers_and_assignments()
     same(thrown([] { bind("?", Form().append_assignments(nullptr, {{"a", 1}})); }),
          "5 Parameter 0 at byte 0 of the form: Unsupported column type 135");
     same(thrown([] { Form().append_identifiers(nullptr, {"a\0b"s}); }), "invalid argument");
+    same(thrown([] { Form().append_identifiers(nullptr, {static_cast<const char *>(nullptr)}); }), "invalid argument");
     same(thrown([] { Form().append_assignments(nullptr, {{{"t", "a\0b"s}, 1}}); }), "invalid argument");
 }
 
@@ -422,6 +443,27 @@ template <typename Call> static bool needs_memory(Call call)
     }
     refuses_memory = false;
     return thrown;
+}
+
+/* A call whose answer needs a length of room. */
+struct Needing {
+    std::size_t len;
+    std::int32_t operator()(std::uint8_t *, std::size_t, mysql_params_report *report) const
+    {
+        report->len = len;
+        return MYSQL_PARAMS_ROOM;
+    }
+    [[noreturn]] void refuse(std::int32_t, const mysql_params_report &) const { throw std::logic_error("it isn't refused"); }
+};
+
+/* A text that is longer than any string is one for which there is no memory. */
+static void texts_too_long()
+{
+    const std::size_t longest = std::string().max_size();
+    for (std::size_t len : {longest + 1, std::numeric_limits<std::size_t>::max()}) {
+        expect(needs_memory([&] { mysql_params::detail::whole_answer(0, Needing{len}); }), "the answer is too long");
+        expect(needs_memory([&] { mysql_params::detail::whole_answer(len, Needing{0}); }), "the guess is too long");
+    }
 }
 
 /* Of a query with a capital in a name a copy is made. */
@@ -632,6 +674,7 @@ int main(int count, char **words)
     all &= passed("templates", templates);
     all &= passed("wide_names", wide_names);
     all &= passed("constructs_of_wide_names", constructs_of_wide_names);
+    all &= passed("texts_too_long", texts_too_long);
     all &= passed("cases", cases);
     return all ? 0 : 1;
 }
