@@ -1,7 +1,7 @@
 package mysqlparams
 
 /*
-#cgo CFLAGS: -std=c11 -O2
+#cgo CFLAGS: -std=c11 -O2 -fstack-protector-strong -U_FORTIFY_SOURCE -D_FORTIFY_SOURCE=2 -fstack-clash-protection
 #cgo LDFLAGS: ${SRCDIR}/native/libmysql_params_c.a
 #include "mysql_params_form.h"
 */
