@@ -32,6 +32,15 @@ unsafe extern "C" {
         room_len: usize,
         report: *mut Report,
     ) -> i32;
+    fn mysql_params_bind_in_both_modes(
+        query: *const u8,
+        query_len: usize,
+        form: *const u8,
+        form_len: usize,
+        room: *mut u8,
+        room_len: usize,
+        report: *mut Report,
+    ) -> i32;
     fn mysql_params_bind_fragments(
         query: *const u8,
         query_len: usize,
@@ -128,6 +137,11 @@ pub fn bind_anywhere(query: &[u8], form: &[u8], room: &mut [u8]) -> (i32, Report
     anywhere(mysql_params_bind_anywhere, query, form, room)
 }
 
+/// `bind` for both modes.
+pub fn bind_in_both_modes(query: &[u8], form: &[u8], room: &mut [u8]) -> (i32, Report) {
+    anywhere(mysql_params_bind_in_both_modes, query, form, room)
+}
+
 /// `names` in the mode without backslash escapes.
 pub fn names_without_backslashes(query: &[u8], room: &mut [u8]) -> (i32, Report) {
     names_in(query, true, room)
@@ -188,7 +202,7 @@ pub fn anywhere(call: Anywhere, query: &[u8], form: &[u8], room: &mut [u8]) -> (
 
 /// Rows, whose forms are length-encoded strings.
 pub fn bind_rows(query: &[u8], forms: &[u8], room: &mut [u8]) -> (i32, Rows, Report) {
-    bind_rows_in(query, forms, false, room)
+    rows_in_mode(mysql_params_bind_rows, query, forms, false, room)
 }
 
 /// The same in the mode without backslash escapes.
@@ -197,11 +211,25 @@ pub fn bind_rows_without_backslashes(
     forms: &[u8],
     room: &mut [u8],
 ) -> (i32, Rows, Report) {
-    bind_rows_in(query, forms, true, room)
+    rows_in_mode(mysql_params_bind_rows, query, forms, true, room)
 }
 
+/// A call of the archive that binds rows in a mode.
+type RowsInMode = unsafe extern "C" fn(
+    *const u8,
+    usize,
+    *const u8,
+    usize,
+    bool,
+    *mut u8,
+    usize,
+    *mut Rows,
+    *mut Report,
+) -> i32;
+
 #[inline(always)]
-fn bind_rows_in(
+pub fn rows_in_mode(
+    call: RowsInMode,
     query: &[u8],
     forms: &[u8],
     no_backslash_escape: bool,
@@ -212,7 +240,7 @@ fn bind_rows_in(
     let (query_at, forms_at, room_at) = (query.as_ptr(), forms.as_ptr(), room.as_mut_ptr());
     let (query_len, forms_len, room_len) = (query.len(), forms.len(), room.len());
     let (number, report) = number_and_report(|report| unsafe {
-        mysql_params_bind_rows(
+        call(
             query_at,
             query_len,
             forms_at,
@@ -229,17 +257,21 @@ fn bind_rows_in(
 
 /// The first construct for which the query isn't portable.
 pub fn first_unportable(query: &[u8], no_backslash_escape: bool) -> (i32, Report) {
-    let query_at = query.as_ptr();
-    number_and_report(|report| unsafe {
-        mysql_params_first_unportable(query_at, query.len(), no_backslash_escape, report)
-    })
+    judge_in_mode(mysql_params_first_unportable, query, no_backslash_escape)
 }
 
 /// The same, or what is found for a client.
 pub fn first_unportable_in_client(query: &[u8], no_backslash_escape: bool) -> (i32, Report) {
+    judge_in_mode(mysql_params_first_unportable_in_client, query, no_backslash_escape)
+}
+
+/// A call of the archive that judges a query in a mode.
+type JudgeInMode = unsafe extern "C" fn(*const u8, usize, bool, *mut Report) -> i32;
+
+pub fn judge_in_mode(call: JudgeInMode, query: &[u8], no_backslash_escape: bool) -> (i32, Report) {
     let query_at = query.as_ptr();
     number_and_report(|report| unsafe {
-        mysql_params_first_unportable_in_client(query_at, query.len(), no_backslash_escape, report)
+        call(query_at, query.len(), no_backslash_escape, report)
     })
 }
 

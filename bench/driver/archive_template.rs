@@ -5,8 +5,8 @@ use plain::room::{DONE, ROOM, Report};
 
 /// A place of a query.
 #[repr(C)]
-#[derive(Clone, Copy)]
-struct Place {
+#[derive(Clone, Copy, Default)]
+pub struct Place {
     before: usize,
     len: usize,
 }
@@ -14,7 +14,7 @@ struct Place {
 /// What a table says of all places.
 #[repr(C)]
 #[derive(Clone, Copy, Default)]
-struct Head {
+pub struct Head {
     names: usize,
     marks: usize,
     not_alone: usize,
@@ -23,9 +23,37 @@ struct Head {
     piece_bytes: usize,
 }
 
+/// A call that makes a table.
+type MakeTable =
+    unsafe extern "C" fn(*const u8, usize, bool, *mut Head, *mut Place, usize, *mut Report) -> i32;
+
+/// A call that binds by one.
+type BindByTable = unsafe extern "C" fn(
+    *const u8,
+    usize,
+    *const Head,
+    *const Place,
+    usize,
+    *const u8,
+    usize,
+    bool,
+    *mut u8,
+    usize,
+    *mut Report,
+) -> i32;
+
 #[link(name = "mysql_params_c", kind = "static")]
 unsafe extern "C" {
     fn mysql_params_table(
+        query: *const u8,
+        query_len: usize,
+        no_backslash_escape: bool,
+        head: *mut Head,
+        places: *mut Place,
+        places_len: usize,
+        report: *mut Report,
+    ) -> i32;
+    fn mysql_params_table_wide(
         query: *const u8,
         query_len: usize,
         no_backslash_escape: bool,
@@ -47,10 +75,25 @@ unsafe extern "C" {
         room_len: usize,
         report: *mut Report,
     ) -> i32;
+    fn mysql_params_bind_template_wide(
+        query: *const u8,
+        query_len: usize,
+        head: *const Head,
+        places: *const Place,
+        places_len: usize,
+        form: *const u8,
+        form_len: usize,
+        no_backslash_escape: bool,
+        room: *mut u8,
+        room_len: usize,
+        report: *mut Report,
+    ) -> i32;
 }
 
 /// A query and its table.
 pub struct Template<'q> {
+    make_table: MakeTable,
+    bind_by_table: BindByTable,
     query: &'q [u8],
     no_backslash_escape: bool,
     head: Head,
@@ -59,11 +102,27 @@ pub struct Template<'q> {
 
 impl<'q> Template<'q> {
     pub fn new(query: &'q [u8], no_backslash_escape: bool) -> Template<'q> {
+        Template::by(mysql_params_table, mysql_params_bind_template, query, no_backslash_escape)
+    }
+
+    /// The same by wide names.
+    pub fn by_wide_names(query: &'q [u8], no_backslash_escape: bool) -> Template<'q> {
+        let (make, bind) = (mysql_params_table_wide, mysql_params_bind_template_wide);
+        Template::by(make, bind, query, no_backslash_escape)
+    }
+
+    fn by(
+        make_table: MakeTable,
+        bind_by_table: BindByTable,
+        query: &'q [u8],
+        no_backslash_escape: bool,
+    ) -> Template<'q> {
         let (head, places) = (Head::default(), Vec::new());
-        let mut template = Template { query, no_backslash_escape, head, places };
+        let mut template =
+            Template { make_table, bind_by_table, query, no_backslash_escape, head, places };
         let (number, report) = template.make();
         if number == ROOM {
-            template.places = vec![Place { before: 0, len: 0 }; report.len];
+            template.places = vec![Place::default(); report.len];
             assert_eq!(template.make().0, DONE);
         }
         template
@@ -75,7 +134,7 @@ impl<'q> Template<'q> {
         // SAFETY: the pointers and lengths are those of slices; head, places and report are the
         // archive's to write.
         number_and_report(|report| unsafe {
-            mysql_params_table(
+            (self.make_table)(
                 self.query.as_ptr(),
                 self.query.len(),
                 self.no_backslash_escape,
@@ -92,7 +151,7 @@ impl<'q> Template<'q> {
         // SAFETY: the pointers and lengths are those of slices, and the room and the report are the
         // archive's to write.
         number_and_report(|report| unsafe {
-            mysql_params_bind_template(
+            (self.bind_by_table)(
                 self.query.as_ptr(),
                 self.query.len(),
                 &self.head,

@@ -1,9 +1,11 @@
 //! Random bindings, the same in each run.
 
-use crate::compared_sides::{Asked, Mode};
+use crate::compared_sides::{ANYWHERE, Asked, IN_A_MODE, IN_BOTH_MODES};
 use crate::differences::Differences;
 use crate::random::Random;
+use crate::wide_names::WideNames;
 use plain::TABLE;
+use plain::bind::bind;
 use plain::form;
 use plain::query::next_place;
 use plain::search::Table;
@@ -71,7 +73,8 @@ const NAMES: [&[u8]; 10] = [
     b"A",
 ];
 
-/// Compares so many calls of `names`, and as many of `bind`, each in both modes, and of binding for any server.
+/// Compares so many calls of `names`, and as many of `bind`, each in both modes, and of binding for any server and for both
+/// modes; all also by wide names.
 pub fn compare(count: u64, differences: &mut Differences) {
     let mut random = Random(20_261_122);
     for _ in 0..count {
@@ -83,21 +86,23 @@ pub fn compare(count: u64, differences: &mut Differences) {
         }
         let len = match &params {
             Some(params) if !random.one_in(8) => {
-                (TABLE.bind)(&query, params).map_or(0, |text| text.len())
+                let text = (TABLE.bind)(&query, params);
+                let text = text.or_else(|_| bind::<WideNames<Table>>(&query, params));
+                text.map_or(0, |text| text.len())
             }
             _ => random.below(1024),
         };
         let room = room_for(&mut random, len);
-        for mode in [Mode::WithBackslashes, Mode::WithoutBackslashes, Mode::ByWideNames] {
+        for mode in IN_A_MODE {
             differences.compare(Asked::Bind, mode, &query, &form, room);
         }
         // Steady literals are longer: the room may have them all, or miss some.
         let longer = room + random.below(256);
-        for mode in [Mode::Anywhere, Mode::AnywhereByWideNames] {
+        for mode in ANYWHERE.into_iter().chain(IN_BOTH_MODES) {
             differences.compare(Asked::Bind, mode, &query, &form, longer);
         }
         let room = query.len() + random.below(query.len() + 2);
-        for mode in [Mode::WithBackslashes, Mode::WithoutBackslashes, Mode::ByWideNames] {
+        for mode in IN_A_MODE {
             differences.compare(Asked::Names, mode, &query, &[], room);
         }
     }
@@ -187,11 +192,14 @@ pub fn damage(random: &mut Random, form: &mut Vec<u8>, bytes: &[u8]) -> bool {
     true
 }
 
-/// The names of the parameters, mostly such as the query needs; an empty one is by position.
+/// The names of the parameters, mostly such as the query needs by names without capitals or by wide
+/// ones; an empty one is by position.
 pub fn names_for(random: &mut Random, query: &[u8]) -> Vec<Vec<u8>> {
     let mut names: Vec<Vec<u8>> = Vec::new();
+    let next =
+        if random.one_in(2) { next_place::<Table> } else { next_place::<WideNames<Table>> };
     let mut at = 0;
-    while let Some((start, end)) = next_place::<Table>(query, at) {
+    while let Some((start, end)) = next(query, at) {
         at = end;
         let name = query[start + 1..end].to_vec();
         if name.is_empty() || !names.contains(&name) {

@@ -7,7 +7,7 @@ use crate::differences::Differences;
 use crate::fragment_bindings;
 use crate::other_mode::WithoutBackslashes;
 use crate::portable;
-use crate::wide_names::WideNames;
+use crate::wide_names::{WideNames, WideWithoutBackslashes};
 use crate::row_bindings;
 use plain::form;
 use plain::query::next_place;
@@ -20,7 +20,7 @@ use std::time::Instant;
 const ALPHABET: &[u8] = b"'\"`\\#-/*:?a1 \n\t!(+\xFF";
 
 /// The bytes that begin, continue, or stand beside a wide name, or hide one.
-const WIDE_ALPHABET: &[u8] = b":aA_0'-/? ";
+const WIDE_ALPHABET: &[u8] = b":aA_0'\\-/? ";
 
 /// Room for each answer to a query of up to 8 bytes.
 const SHORT_ROOM: usize = 256;
@@ -88,41 +88,47 @@ fn short_queries(
     queries
 }
 
-/// The query in the mode with backslash escapes, and, if it has a backslash, in the other.
+/// The query in the mode with backslash escapes, for any server and for both modes, and, if it has a backslash, in the other
+/// mode.
 fn short_query(query: &[u8], values: &[Vec<u8>], one_name: &[u8], differences: &mut Differences) {
-    let modes = [Mode::WithBackslashes, Mode::Anywhere];
-    short_query_in::<Table>(modes, query, values, one_name, differences);
+    let modes = [Mode::WithBackslashes, Mode::Anywhere, Mode::InBothModes];
+    short_query_in::<Table>(&modes, query, values, one_name, differences);
     if query.contains(&b'\\') {
-        let modes = [Mode::WithoutBackslashes, Mode::Anywhere];
-        short_query_in::<WithoutBackslashes<Table>>(modes, query, values, one_name, differences);
+        let modes = [Mode::WithoutBackslashes];
+        short_query_in::<WithoutBackslashes<Table>>(&modes, query, values, one_name, differences);
     }
 }
 
-/// The query by wide names.
+/// The same by wide names.
 fn short_query_by_wide_names(
     query: &[u8],
     values: &[Vec<u8>],
     one_name: &[u8],
     differences: &mut Differences,
 ) {
-    let modes = [Mode::ByWideNames, Mode::AnywhereByWideNames];
-    short_query_in::<WideNames<Table>>(modes, query, values, one_name, differences);
+    let modes = [Mode::ByWideNames, Mode::AnywhereByWideNames, Mode::InBothModesByWideNames];
+    short_query_in::<WideNames<Table>>(&modes, query, values, one_name, differences);
+    if query.contains(&b'\\') {
+        let modes = [Mode::WithoutBackslashesByWideNames];
+        short_query_in::<WideWithoutBackslashes<Table>>(&modes, query, values, one_name, differences);
+    }
 }
 
-/// Names, and binding in a mode and for any, with nothing, with one name, with one value, and with
-/// what fits the query.
+/// Names in the first of the modes, and binding in all, with nothing, with one name, with one value, and with what fits the
+/// query.
 fn short_query_in<S: Search>(
-    [mode, anywhere]: [Mode; 2],
+    modes: &[Mode],
     query: &[u8],
     values: &[Vec<u8>],
     one_name: &[u8],
     differences: &mut Differences,
 ) {
     let one_value = positional_form(1, values);
-    differences.compare(Asked::Names, mode, query, &[], SHORT_ROOM);
+    differences.compare(Asked::Names, modes[0], query, &[], SHORT_ROOM);
     for form in [&[], one_name, one_value.as_slice()] {
-        differences.compare(Asked::Bind, mode, query, form, SHORT_ROOM);
-        differences.compare(Asked::Bind, anywhere, query, form, SHORT_ROOM);
+        for mode in modes {
+            differences.compare(Asked::Bind, *mode, query, form, SHORT_ROOM);
+        }
     }
     let (mut names, mut marks) = (Vec::new(), 0);
     let mut at = 0;
@@ -137,9 +143,8 @@ fn short_query_in<S: Search>(
     if names.len() + marks > 1 || names.iter().any(|name| *name != b"a") {
         let form =
             if marks > 0 { positional_form(marks, values) } else { named_form(&names, values) };
-        differences.compare(Asked::Bind, mode, query, &form, SHORT_ROOM);
-        if mode == Mode::ByWideNames {
-            differences.compare(Asked::Bind, anywhere, query, &form, SHORT_ROOM);
+        for mode in modes {
+            differences.compare(Asked::Bind, *mode, query, &form, SHORT_ROOM);
         }
     }
 }

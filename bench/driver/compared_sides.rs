@@ -2,6 +2,8 @@
 
 use crate::archive;
 use crate::other_mode::{self, WithoutBackslashes};
+use crate::readings::Read;
+use crate::wide_archive;
 use crate::wide_names::{self, WideNames};
 use plain::all_fragments::{bind_form, bind_form_anywhere};
 use plain::room::Report;
@@ -25,11 +27,26 @@ pub enum Mode {
     WithoutBackslashes,
     /// Binding for any mode.
     Anywhere,
-    /// With backslashes, by wide names.
+    /// Binding for both modes, of a query that needn't be steady.
+    InBothModes,
+    /// With backslashes, by wide names, and so on.
     ByWideNames,
-    /// Binding for any mode by wide names.
+    WithoutBackslashesByWideNames,
     AnywhereByWideNames,
+    InBothModesByWideNames,
 }
+
+/// The modes of calls that take one.
+pub const IN_A_MODE: [Mode; 4] = [
+    Mode::WithBackslashes,
+    Mode::WithoutBackslashes,
+    Mode::ByWideNames,
+    Mode::WithoutBackslashesByWideNames,
+];
+/// Those of calls that bind for any server.
+pub const ANYWHERE: [Mode; 2] = [Mode::Anywhere, Mode::AnywhereByWideNames];
+/// Those of calls that bind for both modes.
+pub const IN_BOTH_MODES: [Mode; 2] = [Mode::InBothModes, Mode::InBothModesByWideNames];
 
 /// Number, rows and report of a call; the rows are 0 if it isn't one of rows.
 pub type Answer = (i32, Rows, Report);
@@ -131,35 +148,43 @@ const FRAGMENTS_ANYWHERE: &[Side] = &[
     (BY_16, |query, form, room| single(bind_form_anywhere::<Wide>(query, form, room))),
 ];
 
-const NAMES_WIDE: &[Side] = &[
-    (ARCHIVE, |query, _, room| single(wide_names::archive_names(query, room))),
-    (BY_TABLE, |query, _, room| single(wide_names::names::<Table>(query, room))),
-    (BY_16, |query, _, room| single(wide_names::names::<Wide>(query, room))),
-];
-
-const BIND_WIDE: &[Side] = &[
-    (ARCHIVE, |query, form, room| single(wide_names::archive_bind(query, form, room))),
-    (BY_TABLE, |query, form, room| single(wide_names::bind_form::<Table>(query, form, room))),
-    (BY_16, |query, form, room| single(wide_names::bind_form::<Wide>(query, form, room))),
+const BIND_IN_BOTH_MODES: &[Side] = &[
+    (ARCHIVE, |query, form, room| single(archive::bind_in_both_modes(query, form, room))),
+    (BY_TABLE, |query, form, room| {
+        single(wide_names::bind_form_in_both_modes::<Table>(query, form, room))
+    }),
+    (BY_16, |query, form, room| {
+        single(wide_names::bind_form_in_both_modes::<Wide>(query, form, room))
+    }),
 ];
 
 const BIND_ANYWHERE_WIDE: &[Side] = &[
-    (ARCHIVE, |query, form, room| single(wide_names::archive_bind_anywhere(query, form, room))),
+    (ARCHIVE, |query, form, room| single(wide_archive::bind_anywhere(query, form, room))),
     (BY_TABLE, |query, form, room| {
-        single(wide_names::bind_form_anywhere::<Table>(query, form, room))
+        single(wide_names::bind_form_anywhere::<WideNames<Table>>(query, form, room))
     }),
-    (BY_16, |query, form, room| single(wide_names::bind_form_anywhere::<Wide>(query, form, room))),
+    (BY_16, |query, form, room| {
+        single(wide_names::bind_form_anywhere::<WideNames<Wide>>(query, form, room))
+    }),
+    #[cfg(templates)]
+    (ARCHIVE_BY_TEMPLATE, |query, form, room| {
+        single(wide_archive::bind_anywhere_by_template(query, form, room))
+    }),
 ];
 
-const FRAGMENTS_WIDE: &[Side] = &[
-    (ARCHIVE, |query, form, room| single(wide_names::archive_bind_fragments(query, form, room))),
-    (BY_TABLE, |query, form, room| single(bind_form::<WideNames<Table>>(query, form, room))),
-    (BY_16, |query, form, room| single(bind_form::<WideNames<Wide>>(query, form, room))),
+const BIND_IN_BOTH_MODES_WIDE: &[Side] = &[
+    (ARCHIVE, |query, form, room| single(wide_archive::bind_in_both_modes(query, form, room))),
+    (BY_TABLE, |query, form, room| {
+        single(wide_names::bind_form_in_both_modes::<WideNames<Table>>(query, form, room))
+    }),
+    (BY_16, |query, form, room| {
+        single(wide_names::bind_form_in_both_modes::<WideNames<Wide>>(query, form, room))
+    }),
 ];
 
 const FRAGMENTS_ANYWHERE_WIDE: &[Side] = &[
     (ARCHIVE, |query, form, room| {
-        single(wide_names::archive_bind_fragments_anywhere(query, form, room))
+        single(wide_archive::bind_fragments_anywhere(query, form, room))
     }),
     (BY_TABLE, |query, form, room| {
         single(bind_form_anywhere::<WideNames<Table>>(query, form, room))
@@ -169,9 +194,51 @@ const FRAGMENTS_ANYWHERE_WIDE: &[Side] = &[
     }),
 ];
 
+/// The sides of a call by wide names in the mode of the flag.
+struct SidesByWideNames<const NO_BACKSLASH_ESCAPE: bool>;
+
+impl<const NO: bool> SidesByWideNames<NO> {
+    const NAMES: &[Side] = &[
+        (ARCHIVE, |query, _, room| single(wide_archive::names::<NO>(query, room))),
+        (BY_TABLE, |query, _, room| single(wide_names::names::<Read<Table, NO, true>>(query, room))),
+        (BY_16, |query, _, room| single(wide_names::names::<Read<Wide, NO, true>>(query, room))),
+    ];
+    const BIND: &[Side] = &[
+        (ARCHIVE, |query, form, room| single(wide_archive::bind::<NO>(query, form, room))),
+        (BY_TABLE, |query, form, room| {
+            single(wide_names::bind_form::<Read<Table, NO, true>>(query, form, room))
+        }),
+        (BY_16, |query, form, room| {
+            single(wide_names::bind_form::<Read<Wide, NO, true>>(query, form, room))
+        }),
+        #[cfg(templates)]
+        (ARCHIVE_BY_TEMPLATE, |query, form, room| {
+            single(wide_archive::bind_by_template::<NO>(query, form, room))
+        }),
+    ];
+    const ROWS: &[Side] = &[
+        (ARCHIVE, wide_archive::bind_rows::<NO>),
+        (BY_TABLE, wide_names::bind_rows::<Read<Table, NO, true>>),
+        (BY_16, wide_names::bind_rows::<Read<Wide, NO, true>>),
+    ];
+    const FRAGMENTS: &[Side] = &[
+        (ARCHIVE, |query, form, room| single(wide_archive::bind_fragments::<NO>(query, form, room))),
+        (BY_TABLE, |query, form, room| single(bind_form::<Read<Table, NO, true>>(query, form, room))),
+        (BY_16, |query, form, room| single(bind_form::<Read<Wide, NO, true>>(query, form, room))),
+    ];
+
+    fn of(asked: Asked) -> &'static [Side] {
+        match asked {
+            Asked::Names => Self::NAMES,
+            Asked::Bind => Self::BIND,
+            Asked::Rows => Self::ROWS,
+            Asked::Fragments => Self::FRAGMENTS,
+        }
+    }
+}
+
 /// The sides of a call: the archive, plain Rust by a table, plain Rust by 16 bytes, and then those
-/// that bind by a template. Names and rows for any mode are no call, and rows by wide names aren't
-/// compared.
+/// that bind by a template. Names and rows for any mode, and fragments for both modes, are no call.
 pub fn sides(asked: Asked, mode: Mode) -> &'static [Side] {
     match (asked, mode) {
         (Asked::Names, Mode::WithBackslashes) => NAMES,
@@ -179,17 +246,17 @@ pub fn sides(asked: Asked, mode: Mode) -> &'static [Side] {
         (Asked::Bind, Mode::WithBackslashes) => BIND,
         (Asked::Bind, Mode::WithoutBackslashes) => BIND_WITHOUT,
         (Asked::Bind, Mode::Anywhere) => BIND_ANYWHERE,
+        (Asked::Bind, Mode::InBothModes) => BIND_IN_BOTH_MODES,
         (Asked::Rows, Mode::WithBackslashes) => ROWS,
         (Asked::Rows, Mode::WithoutBackslashes) => ROWS_WITHOUT,
         (Asked::Fragments, Mode::WithBackslashes) => FRAGMENTS,
         (Asked::Fragments, Mode::WithoutBackslashes) => FRAGMENTS_WITHOUT,
         (Asked::Fragments, Mode::Anywhere) => FRAGMENTS_ANYWHERE,
-        (Asked::Names, Mode::ByWideNames) => NAMES_WIDE,
-        (Asked::Bind, Mode::ByWideNames) => BIND_WIDE,
+        (_, Mode::ByWideNames) => SidesByWideNames::<false>::of(asked),
+        (_, Mode::WithoutBackslashesByWideNames) => SidesByWideNames::<true>::of(asked),
         (Asked::Bind, Mode::AnywhereByWideNames) => BIND_ANYWHERE_WIDE,
-        (Asked::Fragments, Mode::ByWideNames) => FRAGMENTS_WIDE,
+        (Asked::Bind, Mode::InBothModesByWideNames) => BIND_IN_BOTH_MODES_WIDE,
         (Asked::Fragments, Mode::AnywhereByWideNames) => FRAGMENTS_ANYWHERE_WIDE,
-        (Asked::Rows, Mode::ByWideNames)
-        | (Asked::Names | Asked::Rows, Mode::Anywhere | Mode::AnywhereByWideNames) => &[],
+        _ => &[],
     }
 }

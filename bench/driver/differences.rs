@@ -19,7 +19,7 @@ fn wanted(asked: Asked) -> Vec<usize> {
     let up_to = |last: usize| [0].into_iter().chain(2..=last);
     match asked {
         Asked::Names => vec![0, 2, 8],
-        Asked::Bind => up_to(16).collect(),
+        Asked::Bind => up_to(16).chain([18]).collect(),
         Asked::Rows => up_to(14).collect(),
         Asked::Fragments => up_to(17).chain([19]).collect(),
     }

@@ -3,9 +3,10 @@
 use crate::bindings::{
     self, append_string, append_value, damage, names_for, random_text, room_for,
 };
-use crate::compared_sides::{Asked, Mode};
+use crate::compared_sides::{ANYWHERE, Asked, IN_A_MODE};
 use crate::differences::Differences;
 use crate::random::Random;
+use crate::wide_names::WideNames;
 use plain::all_fragments::{
     self, ASSIGNMENTS, DECIMAL, Fragment, Given, IDENTIFIER, IDENTIFIERS, Item, KEYWORD, KEYWORDS,
     LIST, Names, QUALIFIED, ROWS,
@@ -27,15 +28,18 @@ pub fn compare(count: u64, differences: &mut Differences) {
         if let Some(given) = &given {
             assert!(read.as_ref() == Ok(given), "the form of {given:?} is read as {read:?}");
         }
-        let text = read.and_then(|given| all_fragments::bind::<Table>(&query, &given));
+        let text = read.and_then(|given| {
+            let text = all_fragments::bind::<Table>(&query, &given);
+            text.or_else(|_| all_fragments::bind::<WideNames<Table>>(&query, &given))
+        });
         let len = text.map_or_else(|_| random.below(1024), |text| text.len());
         let room = room_for(&mut random, len);
-        for mode in [Mode::WithBackslashes, Mode::WithoutBackslashes, Mode::ByWideNames] {
+        for mode in IN_A_MODE {
             differences.compare(Asked::Fragments, mode, &query, &form, room);
         }
         // Steady literals are longer: the room may have them all, or miss some.
         let longer = room + random.below(256);
-        for mode in [Mode::Anywhere, Mode::AnywhereByWideNames] {
+        for mode in ANYWHERE {
             differences.compare(Asked::Fragments, mode, &query, &form, longer);
         }
     }

@@ -1,5 +1,7 @@
 //! The bench: times the archive against plain Rust, and compares their answers.
 
+#[cfg(templates)]
+mod anywhere_template;
 mod archive;
 #[cfg(templates)]
 mod archive_template;
@@ -21,6 +23,7 @@ mod row_bindings;
 mod rows;
 mod sides;
 mod time;
+mod wide_archive;
 mod wide_names;
 
 use crate::report::Report;

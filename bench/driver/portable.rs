@@ -2,8 +2,8 @@
 //! on every short query over the bytes of the constructs, on every short row of a client's pieces,
 //! and on random ones of all pieces.
 
-use crate::archive;
 use crate::random::Random;
+use crate::{archive, wide_archive, wide_names};
 use plain::client::{CLIENT_CONSTRUCTS, first_unportable_in_client};
 use plain::portable::{CONSTRUCTS, LATER_CONSTRUCTS, first_unportable};
 use plain::room::Report;
@@ -70,7 +70,7 @@ const OF_CLIENT: std::ops::Range<usize> =
     CONSTRUCTS.len()..CONSTRUCTS.len() + CLIENT_CONSTRUCTS.len();
 const NUMBERS: usize = OF_CLIENT.end + LATER_CONSTRUCTS.len();
 
-const CALLS: [Call; 2] = [
+const CALLS: [Call; 4] = [
     Call {
         name: "first_unportable",
         archive: archive::first_unportable,
@@ -81,6 +81,18 @@ const CALLS: [Call; 2] = [
         name: "first_unportable_in_client",
         archive: archive::first_unportable_in_client,
         plain: first_unportable_in_client,
+        in_client: true,
+    },
+    Call {
+        name: "first_unportable_wide",
+        archive: wide_archive::first_unportable,
+        plain: wide_names::first_unportable_by_wide_names,
+        in_client: false,
+    },
+    Call {
+        name: "first_unportable_in_client_wide",
+        archive: wide_archive::first_unportable_in_client,
+        plain: wide_names::first_in_client_by_wide_names,
         in_client: true,
     },
 ];
@@ -164,7 +176,7 @@ impl Queries {
         }
     }
 
-    /// Both calls of the query, in both modes.
+    /// All calls of the query, in both modes.
     fn compare(&mut self, query: &[u8]) {
         self.count += 1;
         for (call, judged) in CALLS.iter().zip(&mut self.judged) {

@@ -1,6 +1,6 @@
 //! Binding in one scan into one vector, after docs/RULES.md.
 
-use crate::portable::first_unportable;
+use crate::portable::{first_backslash, first_unportable};
 use crate::query::{lowered, next_place};
 use crate::search::{Search, set};
 use crate::value::{Params, Value, append_literal, append_steady_literal};
@@ -24,6 +24,9 @@ pub enum BindError {
         place: usize,
     },
     Unsteady {
+        position: usize,
+    },
+    Backslash {
         position: usize,
     },
     Unportable {
@@ -71,6 +74,19 @@ pub fn bind_anywhere<S: Search>(query: &[u8], params: &Params) -> Result<Vec<u8>
     if let Some(position) = query.iter().position(|byte| *byte >= 128 || *byte == b'\\') {
         return Err(BindError::Unsteady { position });
     }
+    bind_portable::<S>(query, params)
+}
+
+/// Binds with steady literals, a portable query of which no string has a backslash.
+pub fn bind_in_both_modes<S: Search>(query: &[u8], params: &Params) -> Result<Vec<u8>, BindError> {
+    match first_backslash(query) {
+        Some(position) => Err(BindError::Backslash { position }),
+        None => bind_portable::<S>(query, params),
+    }
+}
+
+/// Binds with steady literals, a query that is portable.
+fn bind_portable<S: Search>(query: &[u8], params: &Params) -> Result<Vec<u8>, BindError> {
     match first_unportable(&lowered::<S>(query), false) {
         (0, _) => bind_with::<S>(query, params, append_steady_literal::<S>),
         (number, position) => Err(BindError::Unportable { number, position }),

@@ -44,6 +44,21 @@ pub fn first_unportable(query: &[u8], no_backslash_escape: bool) -> (i32, usize)
     (PORTABLE, 0)
 }
 
+/// The index of the first backslash in a string, which both modes find alike.
+pub fn first_backslash(query: &[u8]) -> Option<usize> {
+    let mut at = 0;
+    while at < query.len() {
+        let (_, len) = first_token(&query[at..], false);
+        let in_string = matches!(query[at], b'\'' | b'"');
+        let backslash = query[at..at + len].iter().position(|byte| *byte == b'\\');
+        if let (true, Some(index)) = (in_string, backslash) {
+            return Some(at + index);
+        }
+        at += len;
+    }
+    None
+}
+
 /// The construct that begins with the first token of a text, and the token's length; the text isn't
 /// empty.
 pub fn first_token(text: &[u8], no_backslash_escape: bool) -> (Option<i32>, usize) {

@@ -35,6 +35,7 @@ const FLOAT: i32 = 14;
 const UNSTEADY: i32 = 15;
 const UNPORTABLE: i32 = 16;
 pub const FAULT: i32 = 17;
+const BACKSLASH: i32 = 18;
 pub(crate) const UNSTEADY_FRAGMENT: i32 = 19;
 
 /// The names of the numbers, from 0.
@@ -165,6 +166,7 @@ pub(crate) fn bind_answer(error: &BindError) -> (i32, Report) {
         BindError::NotAlone { place, position } => (NOT_ALONE, Report { place, position, ..none }),
         BindError::Float { place } => (FLOAT, Report { place, ..none }),
         BindError::Unsteady { position } => (UNSTEADY, Report { position, ..none }),
+        BindError::Backslash { position } => (BACKSLASH, Report { position, ..none }),
         BindError::Unportable { number, position } => {
             (UNPORTABLE, Report { position, byte: number as usize, ..none })
         }
