@@ -98,12 +98,12 @@ func (e *BindError) Error() string {
 // Unwrap returns the error of a driver.Valuer, if it was one.
 func (e *BindError) Unwrap() error { return e.cause }
 
-// nameAt returns so many bytes of a source, if they stand in it.
+// nameAt returns a copy of so many bytes of a source, if they stand in it. A form's memory is used again.
 func nameAt(source string, begin, length int) string {
 	if begin < 0 || length < 0 || begin > len(source) || length > len(source)-begin {
 		return ""
 	}
-	return source[begin : begin+length]
+	return strings.Clone(source[begin : begin+length])
 }
 
 // tellMore has the error tell the name that stands in its place, and what may be wrong.
