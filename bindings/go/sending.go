@@ -5,25 +5,30 @@ import (
 	"database/sql"
 	"database/sql/driver"
 	"errors"
+	"fmt"
 	"strings"
+	"sync"
 )
 
-// Sender is what sends a text: a *sql.DB, a *sql.Conn or a *sql.Tx.
+// Sender is what sends a text, such as a *sql.DB, a *sql.Conn or a *sql.Tx.
 type Sender interface {
 	QueryContext(ctx context.Context, query string, args ...any) (*sql.Rows, error)
 	ExecContext(ctx context.Context, query string, args ...any) (sql.Result, error)
 }
 
-// pool is a Sender that sends over any of its connections, as a *sql.DB.
-type pool interface {
-	Conn(ctx context.Context) (*sql.Conn, error)
+// OneConnection is a Sender of another package that promises, by its method, what a *sql.Conn and a *sql.Tx keep:
+// each text goes over the same connection, which is never made anew.
+type OneConnection interface {
+	Sender
+	OneConnection()
 }
 
 // QueryContext binds a query, and sends the text without arguments, so that the driver sends it as it is.
 //
 // The text is that of BindAnywhere, which is right for any connection: nothing is asked. If the query or an
 // Identifier has a backslash or a byte from 128 on, the connection that sends it is asked first, as by Ask, and the
-// text is that of Session.Bind. Where a server wants a plain text, as after SEPARATOR, take a Session.
+// text is that of Session.Bind. Then the Sender has to be a *sql.DB, of which one connection is taken, or what Ask
+// takes. Where a server wants a plain text, as after SEPARATOR, take a Session.
 func QueryContext(ctx context.Context, to Sender, query string, args ...any) (*sql.Rows, error) {
 	return Binder{}.QueryContext(ctx, to, query, args...)
 }
@@ -83,13 +88,13 @@ func isUnsteady(err error) bool {
 
 // askOne asks a connection, of a pool one that the caller gives back.
 func (b Binder) askOne(ctx context.Context, to Sender) (*Session, *sql.Conn, error) {
-	connections, ok := to.(pool)
+	db, ok := to.(*sql.DB)
 	if !ok {
 		session, err := b.Ask(ctx, to)
 		return session, nil, err
 	}
 	for tries := 0; ; tries++ {
-		conn, err := connections.Conn(ctx)
+		conn, err := db.Conn(ctx)
 		if err != nil {
 			return nil, nil, err
 		}
@@ -105,30 +110,51 @@ func (b Binder) askOne(ctx context.Context, to Sender) (*Session, *sql.Conn, err
 }
 
 // Session is a connection that was asked for its mode and its character sets. It sends texts of Bind in that
-// mode, with plain literals. It holds as long as the connection does, which a *sql.Conn or a *sql.Tx never
-// changes by itself: after a SET of sql_mode or a character set call Ask again.
+// mode, with plain literals.
+//
+// After it has sent a query that isn't one SELECT, INSERT, UPDATE, DELETE or REPLACE, it asks again before its next
+// text. It doesn't see what others send over the connection: after a SET of sql_mode or a character set by another
+// call, call Ask again.
 type Session struct {
 	conn   Sender
-	mode   Mode
 	binder Binder
+
+	lock    sync.Mutex
+	mode    Mode
+	changes int // queries sent that may have changed the mode or a character set
+	asked   int // so many of them were sent when the connection was asked
 }
 
-// Ask asks a *sql.Conn or a *sql.Tx for its sql_mode and its character sets. It refuses those that aren't
-// utf8mb4, and a pool, whose connections may differ, with CodeSession.
+// Ask asks a connection for its sql_mode and its character sets: a *sql.Conn, a *sql.Tx or a OneConnection. It
+// refuses character sets that aren't utf8mb4, and any other Sender, whose connections may differ, with CodeSession.
 func Ask(ctx context.Context, conn Sender) (*Session, error) {
 	return Binder{}.Ask(ctx, conn)
 }
 
-const questionOfSession = "SELECT @@sql_mode, @@character_set_client, @@character_set_connection"
-
 // Ask is the package's Ask with the options, for what the Session sends.
 func (b Binder) Ask(ctx context.Context, conn Sender) (*Session, error) {
-	if _, ok := conn.(pool); ok {
+	switch conn.(type) {
+	case *sql.Conn, *sql.Tx, OneConnection:
+	case *sql.DB:
 		return nil, sessionError("A pool has many connections: ask one of them, as db.Conn(ctx) gives it")
+	default:
+		return nil, sessionError(fmt.Sprintf("A %T may send over many connections, and one has to be asked: "+
+			"give a *sql.DB, a *sql.Conn, a *sql.Tx or a OneConnection", conn))
 	}
-	rows, err := conn.QueryContext(ctx, questionOfSession)
-	if err != nil {
+	session := &Session{conn: conn, binder: b}
+	if err := session.ask(ctx); err != nil {
 		return nil, err
+	}
+	return session, nil
+}
+
+const questionOfSession = "SELECT @@sql_mode, @@character_set_client, @@character_set_connection"
+
+// ask asks the connection.
+func (s *Session) ask(ctx context.Context) error {
+	rows, err := s.conn.QueryContext(ctx, questionOfSession)
+	if err != nil {
+		return err
 	}
 	defer rows.Close()
 	var sqlMode, client, own string
@@ -139,15 +165,16 @@ func (b Binder) Ask(ctx context.Context, conn Sender) (*Session, error) {
 		err = rows.Err()
 	}
 	if err != nil {
-		return nil, err
+		return err
 	}
 	for _, is := range [][2]string{{"character_set_client", client}, {"character_set_connection", own}} {
 		if is[1] != "utf8mb4" {
-			return nil, sessionError("The connection's " + is[0] + " is " + shown(is[1]) +
+			return sessionError("The connection's " + is[0] + " is " + shown(is[1]) +
 				", and has to be utf8mb4: connect with charset=utf8mb4")
 		}
 	}
-	return &Session{conn: conn, mode: ModeOf(sqlMode), binder: b}, nil
+	s.mode, s.asked = ModeOf(sqlMode), s.changes
+	return nil
 }
 
 // sessionError returns the refusal of a connection.
@@ -165,15 +192,30 @@ func ModeOf(sqlMode string) Mode {
 	return BackslashEscapes
 }
 
-// Mode returns the mode of the connection.
-func (s *Session) Mode() Mode { return s.mode }
+// Mode returns the mode of the connection, as it answered last.
+func (s *Session) Mode() Mode {
+	s.lock.Lock()
+	defer s.lock.Unlock()
+	return s.mode
+}
 
 // Bind returns the text of Bind in the mode of the connection. It refuses a query that isn't portable with
-// CodeUnportable.
+// CodeUnportable, and if the connection has to be asked again, each query with CodeSession.
 func (s *Session) Bind(query string, args ...any) (string, error) {
-	kept := keptTemplate(s.mode, query)
+	s.lock.Lock()
+	mode, isKnown := s.mode, s.asked == s.changes
+	s.lock.Unlock()
+	if !isKnown {
+		return "", sessionError("The Session has sent what may change its mode: send by it, or call Ask again")
+	}
+	return s.binder.bindPortable(mode, query, args)
+}
+
+// bindPortable returns the text of Bind, of a query that is portable.
+func (b Binder) bindPortable(mode Mode, query string, args []any) (string, error) {
+	kept := keptTemplate(mode, query)
 	if kept == nil || !kept.portable {
-		found, err := FirstUnportable(s.mode, query)
+		found, err := FirstUnportable(mode, query)
 		if err != nil {
 			return "", err
 		}
@@ -181,23 +223,74 @@ func (s *Session) Bind(query string, args ...any) (string, error) {
 			return "", found.refused()
 		}
 	}
-	return s.binder.bindKept(kept, s.mode, query, args)
+	return b.bindKept(kept, mode, query, args)
 }
 
 // QueryContext binds a query, and sends the text over the connection without arguments.
-func (s *Session) QueryContext(ctx context.Context, query string, args ...any) (*sql.Rows, error) {
-	text, err := s.Bind(query, args...)
-	if err != nil {
-		return nil, err
-	}
-	return s.conn.QueryContext(ctx, text)
+func (s *Session) QueryContext(ctx context.Context, query string, args ...any) (rows *sql.Rows, err error) {
+	err = s.send(ctx, query, args, func(text string) (sent error) {
+		rows, sent = s.conn.QueryContext(ctx, text)
+		return sent
+	})
+	return rows, err
 }
 
 // ExecContext binds a query, and sends the text, as QueryContext.
-func (s *Session) ExecContext(ctx context.Context, query string, args ...any) (sql.Result, error) {
-	text, err := s.Bind(query, args...)
+func (s *Session) ExecContext(ctx context.Context, query string, args ...any) (result sql.Result, err error) {
+	err = s.send(ctx, query, args, func(text string) (sent error) {
+		result, sent = s.conn.ExecContext(ctx, text)
+		return sent
+	})
+	return result, err
+}
+
+// send binds a query in the mode of the connection, and has a call send the text while that mode still holds.
+func (s *Session) send(ctx context.Context, query string, args []any, by func(text string) error) error {
+	mode, changes, err := s.known(ctx)
 	if err != nil {
-		return nil, err
+		return err
 	}
-	return s.conn.ExecContext(ctx, text)
+	// Without the lock: a driver.Valuer may send by this Session.
+	text, err := s.binder.bindPortable(mode, query, args)
+	if err != nil {
+		return err
+	}
+	s.lock.Lock()
+	defer s.lock.Unlock()
+	if s.changes != changes {
+		return sessionError("While the query was bound, the Session sent what may change its mode: call again")
+	}
+	if !keepsMode(query) {
+		s.changes++
+	}
+	return by(text)
+}
+
+// known returns the mode of the connection, which is asked again if need be, and how many queries may have changed it
+// before.
+func (s *Session) known(ctx context.Context) (Mode, int, error) {
+	s.lock.Lock()
+	defer s.lock.Unlock()
+	if s.asked != s.changes {
+		if err := s.ask(ctx); err != nil {
+			return false, 0, err
+		}
+	}
+	return s.mode, s.changes, nil
+}
+
+// keepsMode returns whether a query is surely one statement that leaves sql_mode and character sets as they are. A
+// semicolon may begin another statement, except at the end.
+func keepsMode(query string) bool {
+	const space = " \t\r\n"
+	query = strings.TrimRight(strings.TrimLeft(query, space), space+";")
+	end := 0
+	for end < len(query) && isOfNames(query[end]) {
+		end++
+	}
+	switch strings.ToUpper(query[:end]) {
+	case "SELECT", "INSERT", "UPDATE", "DELETE", "REPLACE":
+		return !strings.Contains(query, ";")
+	}
+	return false
 }

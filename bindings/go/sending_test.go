@@ -38,7 +38,7 @@ func (c *playedConn) Begin() (driver.Tx, error)           { return c, nil }
 func (c *playedConn) Commit() error                       { return nil }
 func (c *playedConn) Rollback() error                     { return nil }
 
-// take keeps a text.
+// take keeps a text. What it sets is the session's from then on.
 func (c *playedConn) take(text string, args []driver.NamedValue) {
 	if len(args) > 0 {
 		panic("a text was sent with arguments")
@@ -46,6 +46,12 @@ func (c *playedConn) take(text string, args []driver.NamedValue) {
 	c.Lock()
 	defer c.Unlock()
 	c.texts = append(c.texts, text)
+	if _, mode, ok := strings.Cut(text, "SET sql_mode = "); ok {
+		c.sqlMode = mode
+	}
+	if _, charset, ok := strings.Cut(text, "SET NAMES "); ok {
+		c.client, c.own = charset, charset
+	}
 }
 
 func (c *playedConn) ExecContext(_ context.Context, text string, args []driver.NamedValue) (driver.Result, error) {

@@ -42,7 +42,7 @@ func open(t *testing.T, params map[string]string, interpolate bool) *sql.DB {
 	}
 	config := mysql.NewConfig()
 	config.User, config.Net, config.Addr, config.Params, config.InterpolateParams = "root", "unix", socket, params, interpolate
-	config.Collation = "utf8mb4_general_ci"
+	config.Collation, config.MultiStatements = "utf8mb4_general_ci", true
 	connector, err := mysql.NewConnector(config)
 	check(t, err)
 	db := sql.OpenDB(connector)
