@@ -258,14 +258,26 @@ func (w *writer) whole(number *big.Int) error {
 		w.int(number.Int64())
 	case number.IsUint64():
 		w.uint(number.Uint64())
+	case number.BitLen() > mostBits:
+		return w.refuseDigits("more than " + strconv.Itoa(mostDigits))
 	default:
 		return w.decimal(number.String())
 	}
 	return nil
 }
 
-// mostDigits is how many digits of an exact number servers keep.
-const mostDigits = 65
+// mostDigits is how many digits of an exact number servers keep, and mostBits how many bits a number of so many has.
+// The digits of one with many more would take long to find.
+const (
+	mostDigits = 65
+	mostBits   = 216
+)
+
+// refuseDigits returns the error for an exact number of so many digits.
+func (w *writer) refuseDigits(count string) error {
+	return w.refuseValue("is an exact number of " + count + " digits, and servers keep " + strconv.Itoa(mostDigits) +
+		": round it")
+}
 
 // decimal writes an exact number.
 func (w *writer) decimal(text string) error {
@@ -280,8 +292,7 @@ func (w *writer) decimal(text string) error {
 		}
 	}
 	if digits > mostDigits {
-		return w.refuseValue("is an exact number of " + strconv.Itoa(digits) + " digits, and servers keep " +
-			strconv.Itoa(mostDigits) + ": round it")
+		return w.refuseDigits(strconv.Itoa(digits))
 	}
 	w.fragments = true
 	w.form = append(w.form, typeNumber, 0)
