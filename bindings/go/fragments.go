@@ -44,7 +44,7 @@ func KeywordAmong(word string, among ...constant) (KeywordOf, error) {
 	choice := ""
 	for _, one := range among {
 		if string(one) == word {
-			return KeywordOf{word}, nil
+			return KeywordOf{string(one)}, nil
 		}
 		choice += ", " + strconv.Quote(string(one))
 	}

@@ -352,6 +352,13 @@ func TestKeywords(t *testing.T) {
 	if err != nil || order.String() != "DESC" {
 		t.Error(order, err)
 	}
+	// Of a request whose memory is used again, as some frameworks hand out texts.
+	given := []byte("DESC")
+	order, err = KeywordAmong(stringOf(given), "ASC", "DESC")
+	copy(given, "ASC ")
+	if err != nil || order.String() != "DESC" {
+		t.Error(order, err)
+	}
 	var found *BindError
 	if _, err := KeywordAmong("DESC, 1", "ASC", "DESC"); !errors.As(err, &found) || found.Code != CodeValue ||
 		err.Error() != `the word is none of the keywords "ASC", "DESC"` {
