@@ -283,11 +283,6 @@ func (c *sharedCase) wanted() BindError {
 	return found
 }
 
-// wantedMessage returns the message of a case as Go has it.
-func (c *sharedCase) wantedMessage() string {
-	return strings.Replace(c.message, "; give None for NaN", "; give nil for NaN", 1)
-}
-
 // expect compares what a call gave with what a case wants.
 func (c *sharedCase) expect(t *testing.T, text string, err error) {
 	t.Helper()
@@ -312,7 +307,7 @@ func (c *sharedCase) expectRefusal(t *testing.T, text string, err error, row int
 	if !reflect.DeepEqual(*found, wanted) {
 		t.Errorf("%q: %+v, and not %+v", c.lines, *found, wanted)
 	}
-	if c.message != "" && found.message != c.wantedMessage() || !strings.HasPrefix(found.message, c.messageInC) {
+	if message := c.wantedMessage(); message != "" && found.message != message {
 		t.Errorf("%q: %s", c.lines, found.message)
 	}
 	if row < 0 && err.Error() != found.message || row >= 0 && err.Error() != fmt.Sprintf("row %d: %s", row,

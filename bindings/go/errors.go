@@ -34,6 +34,41 @@ const (
 	CodeArchive            Code = -4 // the archive isn't the one of this package
 )
 
+// The causes of refusals, for errors.Is: each is the BindErrors with the Code of its name.
+var (
+	ErrOutOfMemory        error = &cause{CodeOutOfMemory, "out of memory"}
+	ErrFormEnd            error = &cause{CodeFormEnd, "the form ends within a parameter"}
+	ErrFormLengthLead     error = &cause{CodeFormLengthLead, "a length in the form begins with a wrong byte"}
+	ErrFormType           error = &cause{CodeFormType, "a type without a binary form"}
+	ErrFormMixed          error = &cause{CodeFormMixed, "arguments with and without a name"}
+	ErrRepeatedName       error = &cause{CodeRepeatedName, "a name is given twice"}
+	ErrMixed              error = &cause{CodeMixed, "a query with names and marks"}
+	ErrMissing            error = &cause{CodeMissing, "a name has no value"}
+	ErrNamedForPositional error = &cause{CodeNamedForPositional, "arguments with names for a query without"}
+	ErrPositionalForNamed error = &cause{CodePositionalForNamed, "arguments without names for a query with names"}
+	ErrMarkCount          error = &cause{CodeMarkCount, "not as many values as marks"}
+	ErrNotAlone           error = &cause{CodeNotAlone, "a place touches its neighbour"}
+	ErrFloat              error = &cause{CodeFloat, "a float that can't be written"}
+	ErrUnsteady           error = &cause{CodeUnsteady, "a query that isn't ASCII without a backslash"}
+	ErrUnportable         error = &cause{CodeUnportable, "a query that servers read in different ways"}
+	ErrFault              error = &cause{CodeFault, "a list, rows, a number, a name or a keyword that can't be written"}
+	ErrBackslash          error = &cause{CodeBackslash, "a backslash in a string of the query"}
+	ErrUnsteadyFragment   error = &cause{CodeUnsteadyFragment, "a name that isn't ASCII without a backslash"}
+	ErrOtherTable         error = &cause{CodeOtherTable, "the table of another query"}
+	ErrValue              error = &cause{CodeValue, "a value that can't be bound"}
+	ErrSession            error = &cause{CodeSession, "a connection that a bound text isn't for"}
+	ErrProcessor          error = &cause{CodeProcessor, "the processor lacks a feature of x86-64-v2"}
+	ErrArchive            error = &cause{CodeArchive, "the archive of another package"}
+)
+
+// cause is a Code as an error.
+type cause struct {
+	code Code
+	says string
+}
+
+func (c *cause) Error() string { return "mysqlparams: " + c.says }
+
 // Fault is what is wrong with a list, rows, an exact number, Identifiers, Assignments or a keyword.
 type Fault int
 
@@ -50,8 +85,8 @@ const (
 	FaultBackslash     Fault = 10 // a name with a backslash before a backquote or at its end
 )
 
-// BindError is each refusal of this package: errors.As finds it. Numbers of places, arguments, rows and bytes
-// begin at 0.
+// BindError is each refusal of this package: errors.As finds it, and errors.Is its cause, such as ErrMissing.
+// Numbers of places, arguments, rows and bytes begin at 0.
 type BindError struct {
 	// Code says which refusal it is.
 	Code Code
@@ -86,8 +121,7 @@ type BindError struct {
 	cause   error
 }
 
-// Error returns what is wrong in one line, without a value. It is what mysql_params_message of C says, with
-// the name of the place behind it.
+// Error returns what is wrong in one line, without a value.
 func (e *BindError) Error() string {
 	if e.Row >= 0 {
 		return "row " + strconv.Itoa(e.Row) + ": " + e.message
@@ -98,29 +132,18 @@ func (e *BindError) Error() string {
 // Unwrap returns the error of a driver.Valuer, if it was one.
 func (e *BindError) Unwrap() error { return e.cause }
 
+// Is returns whether a target is the cause of this refusal, such as ErrMissing.
+func (e *BindError) Is(target error) bool {
+	of, ok := target.(*cause)
+	return ok && of.code == e.Code
+}
+
 // nameAt returns a copy of so many bytes of a source, if they stand in it. A form's memory is used again.
 func nameAt(source string, begin, length int) string {
 	if begin < 0 || length < 0 || begin > len(source) || length > len(source)-begin {
 		return ""
 	}
 	return strings.Clone(source[begin : begin+length])
-}
-
-// tellMore has the error tell the name that stands in its place, and what may be wrong.
-func (e *BindError) tellMore(q *question) {
-	if e.Code == CodeNamedForPositional && e.Word == "" {
-		e.message += ": no `:name` stands outside of strings and comments"
-	}
-	if e.Code != CodeFloat && e.Code != CodeFault && e.Code != CodeUnsteadyFragment {
-		return
-	}
-	if found, err := Names(q.mode, q.query); err == nil && e.Place < len(found.Names) {
-		e.Name = found.Names[e.Place]
-		e.message += ": the value of `:" + e.Name + "`"
-	}
-	if e.Code == CodeFloat {
-		e.message += "; give nil for NaN and infinities, else a text"
-	}
 }
 
 // shown returns a text as messages show it: other bytes than printable ASCII, `"` and `\` as `\x` and two digits.

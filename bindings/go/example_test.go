@@ -58,7 +58,7 @@ func ExampleBindError() {
 	_, err := mysqlparams.BindAnywhere("SELECT :größe", 7)
 	var refused *mysqlparams.BindError
 	if errors.As(err, &refused) {
-		fmt.Println(refused.Code == mysqlparams.CodeUnsteady, refused.Position)
+		fmt.Println(errors.Is(err, mysqlparams.ErrUnsteady), refused.Position)
 	}
 	fmt.Println(err)
 
@@ -69,7 +69,7 @@ func ExampleBindError() {
 	fmt.Println(err)
 	// Output:
 	// true 10
-	// Backslash or byte that is not ASCII at byte 10 of the query: over utf8mb4 bind_in_both_modes takes it, except a backslash in a string
-	// Fragment at place 0 can't be written: it is empty
+	// Backslash or byte that is not ASCII at byte 10 of the query: over utf8mb4 BindInBothModes takes it, except a backslash in a string
+	// The list for place 0 is empty
 	// the value for place 0 is of type map[string]interface {}, which has no literal: for SET give Assignments, which have an order, else json.Marshal's bytes of it
 }

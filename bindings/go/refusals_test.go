@@ -47,7 +47,7 @@ func TestRefusalsStay(t *testing.T) {
 		for i := 0; i < 200; i++ {
 			var found *BindError
 			if !errors.As(err, &found) || found.Code != CodeRepeatedName || found.Name != name ||
-				!strings.HasSuffix(err.Error(), "Redefinition of named parameter `"+name+"'") {
+				!strings.HasSuffix(err.Error(), "`:"+name+"` is given twice") {
 				t.Fatalf("%s: %v, of %q", of, err, found.Name)
 			}
 		}
@@ -56,5 +56,32 @@ func TestRefusalsStay(t *testing.T) {
 		if errors.As(err, &found); found.Name != name {
 			t.Errorf("%s: %q", of, found.Name)
 		}
+	}
+}
+
+// TestCauses has each Code found by its own error, and by no other.
+func TestCauses(t *testing.T) {
+	causes := map[Code]error{
+		1: ErrOutOfMemory, 3: ErrFormEnd, 4: ErrFormLengthLead, 5: ErrFormType, 6: ErrFormMixed, 7: ErrRepeatedName, 8: ErrMixed,
+		9: ErrMissing, 10: ErrNamedForPositional, 11: ErrPositionalForNamed, 12: ErrMarkCount, 13: ErrNotAlone, 14: ErrFloat,
+		15: ErrUnsteady, 16: ErrUnportable, 17: ErrFault, 18: ErrBackslash, 19: ErrUnsteadyFragment, 20: ErrOtherTable,
+		-1: ErrValue, -2: ErrSession, -3: ErrProcessor, -4: ErrArchive,
+	}
+	for code, cause := range causes {
+		for other, wrong := range causes {
+			if is := errors.Is(&BindError{Code: code}, wrong); is != (code == other) {
+				t.Errorf("%d is %v: %v", code, wrong, is)
+			}
+		}
+		if !strings.HasPrefix(cause.Error(), "mysqlparams: ") {
+			t.Error(cause)
+		}
+	}
+	_, err := BindRows(BackslashEscapes, "SELECT :a", [][]any{{sql.Named("a", 1)}, {sql.Named("b", 1)}})
+	if !errors.Is(err, ErrMissing) || errors.Is(err, ErrFault) {
+		t.Error(err)
+	}
+	if err := refused(t, broken{}); !errors.Is(err, ErrValue) || !errors.Is(err, errBroken) {
+		t.Error(err)
 	}
 }

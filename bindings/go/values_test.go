@@ -274,12 +274,12 @@ func TestArguments(t *testing.T) {
 	}{
 		{":a", []any{sql.Named("", 1)}, CodeValue, "Parameter 0 has an empty name"},
 		{":a, :b", []any{sql.Named("a", 1), 2}, CodeFormMixed,
-			"Parameter 1 at byte 12 of the form: Named and positional params in one form"},
-		{":a", []any{sql.Named("a", 1), sql.Named("a", 2)}, CodeRepeatedName, "Redefinition of named parameter `a'"},
-		{"?", nil, CodeMarkCount, "Query has 1 marks and 0 values"},
-		{"1?", []any{1}, CodeNotAlone, "Place 0 at byte 1 does not stand alone"},
+			"Argument 1 differs from those before it: give all a name, or none"},
+		{":a", []any{sql.Named("a", 1), sql.Named("a", 2)}, CodeRepeatedName, "`:a` is given twice"},
+		{"?", nil, CodeMarkCount, "The query has 1 `?`, and 0 values are given"},
+		{"1?", []any{1}, CodeNotAlone, "`?` at byte 1 touches `1`: put a space between"},
 		{":größe", []any{sql.Named("gr", 1)}, CodeNotAlone,
-			"Place 0 at byte 0 does not stand alone: names are of ASCII letters, digits and _, so `:gr\\xc3\\xb6\\xc3\\x9fe` ends after `gr`"},
+			"`:gr` at byte 0 touches `\\xc3`: names are of ASCII letters, digits and _, so `:gr\\xc3\\xb6\\xc3\\x9fe` ends after `gr`"},
 	} {
 		var found *BindError
 		_, err := Bind(BackslashEscapes, c.query, c.args...)

@@ -82,13 +82,13 @@ func TestRefusedMemory(t *testing.T) {
 
 // TestRefusedMemoryOfNames has the name of a place left out if there is no memory to find it.
 func TestRefusedMemoryOfNames(t *testing.T) {
-	found := &BindError{Code: CodeFault}
+	found := &BindError{Code: CodeFault, Fault: FaultEmptyRow}
 	runtime.LockOSThread()
 	defer runtime.UnlockOSThread()
 	refuseAfter(0)
 	found.tellMore(&question{query: strings.Repeat(":a ", 1000)})
 	refuseAfter(-1)
-	if found.Name != "" || found.message != "" {
+	if found.Name != "" || found.message != "Row 0 for place 0 is empty" {
 		t.Error(found)
 	}
 }
