@@ -3,12 +3,18 @@ use crate::{Time, Value};
 use std::fmt;
 use std::time::Duration;
 
-/// A duration of more than 4294967295 days, which no [`Time`] holds.
-#[derive(Clone, Copy, Debug, PartialEq, Eq)]
+/// A duration of more than 4294967295 days, which no [`Time`] holds. `Debug` doesn't show it.
+#[derive(Clone, Copy, PartialEq, Eq)]
 pub struct DurationTooLong(
     /// The duration.
     pub Duration,
 );
+
+impl fmt::Debug for DurationTooLong {
+    fn fmt(&self, f: &mut fmt::Formatter<'_>) -> fmt::Result {
+        write!(f, "DurationTooLong(..)")
+    }
+}
 
 impl fmt::Display for DurationTooLong {
     fn fmt(&self, f: &mut fmt::Formatter<'_>) -> fmt::Result {

@@ -13,11 +13,20 @@ use std::iter::FusedIterator;
 /// assert!(texts.iter().eq([b"SELECT 1", b"SELECT 2"]));
 /// # Ok::<(), mysql_params::RowError>(())
 /// ```
-#[derive(Clone, Debug, Default, PartialEq, Eq)]
+///
+/// `Debug` shows their number, since they hold values.
+#[derive(Clone, Default, PartialEq, Eq)]
 pub struct Texts {
     /// Each as a length-encoded string.
     strings: Vec<u8>,
     count: usize,
+}
+
+impl fmt::Debug for Texts {
+    fn fmt(&self, f: &mut fmt::Formatter<'_>) -> fmt::Result {
+        let mut fields = f.debug_struct("Texts");
+        fields.field("count", &self.count).finish_non_exhaustive()
+    }
 }
 
 impl Texts {
@@ -52,11 +61,18 @@ impl<'a> IntoIterator for &'a Texts {
     }
 }
 
-/// The texts of rows, in order.
-#[derive(Clone, Debug)]
+/// The texts of rows, in order. `Debug` shows the number of those to come.
+#[derive(Clone)]
 pub struct TextsIter<'a> {
     rest: &'a [u8],
     count: usize,
+}
+
+impl fmt::Debug for TextsIter<'_> {
+    fn fmt(&self, f: &mut fmt::Formatter<'_>) -> fmt::Result {
+        let mut fields = f.debug_struct("TextsIter");
+        fields.field("count", &self.count).finish_non_exhaustive()
+    }
 }
 
 impl<'a> Iterator for TextsIter<'a> {

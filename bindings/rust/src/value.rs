@@ -1,6 +1,7 @@
 //! Values and parameters.
 
-/// A value for a place of a query. It borrows its bytes.
+/// A value for a place of a query. It borrows its bytes. `Debug` shows them, of parameters and fragments too: keep it out
+/// of logs.
 #[derive(Clone, Copy, Debug, PartialEq)]
 pub enum Value<'a> {
     /// `NULL`.

@@ -5,6 +5,7 @@ use mysql_params::{
     bind_form, bind_fragments_anywhere_str, bind_fragments_str, bind_fragments_str_in,
     bind_in_both_modes_str, bind_rows, names, params, row,
 };
+use std::time::Duration;
 
 #[test]
 fn texts_of_fragments() {
@@ -139,4 +140,18 @@ fn what_messages_advise() {
     let advice = "it is none of the keywords in capitals that Fragment::Keyword lists";
     let message = format!("Fragment at place 0 can't be written: {advice}: the value of `:order`");
     assert_eq!(error.expect_err("it is no capital").to_string(), message);
+}
+
+/// What holds values shows none where an error carries it, as `unwrap` prints it.
+#[test]
+fn debug_without_values() {
+    let rows: [&[Value]; 2] = [&row!["secret"], &[]];
+    let refused = bind_rows(b"?", rows).expect_err("no value");
+    let wanted = "RowError { row: 1, error: MarkCount { marks: 1, values: 0 }, texts: Texts { count: 1, .. } }";
+    assert_eq!(format!("{refused:?}"), wanted);
+    let texts = refused.texts.iter();
+    assert_eq!(format!("{texts:?}"), "TextsIter { count: 1, .. }");
+    assert!(texts.eq([b"'secret'"]));
+    let too_long = Value::try_from(Duration::MAX).expect_err("too long");
+    assert_eq!(format!("{too_long:?}"), "DurationTooLong(..)");
 }
