@@ -7,6 +7,7 @@ use std::fmt;
 ///
 /// A `word` is one of the query, without its colon, in which a letter that no name has stands directly after a name or
 /// in place of it: names are of ASCII letters, digits and `_`, so `:größe` ends after `gr`, and `:über` is none.
+#[non_exhaustive]
 #[derive(Clone, Debug, PartialEq, Eq)]
 pub enum Error {
     /// There was no memory. It may come in place of any other result.

@@ -3,6 +3,7 @@ use crate::Value;
 use std::fmt;
 
 /// An item of a list or a row, or what a column is set to.
+#[non_exhaustive]
 #[derive(Clone, Copy, Debug, PartialEq)]
 pub enum Item<'a> {
     /// A value.
@@ -69,6 +70,7 @@ impl<'a> From<Vec<&'a str>> for Column<'a> {
 ///
 /// Numbers, texts, dates and what else makes a [`Value`] make a fragment by `into()`, a `Vec` of them a list, and a `Vec`
 /// of tuples of them rows. A finite `f32` or `f64` is written as a number, `1.5e0`: see [`Value::Double`].
+#[non_exhaustive]
 #[derive(Clone, Debug, PartialEq)]
 pub enum Fragment<'a> {
     /// A value.
@@ -166,6 +168,7 @@ pub enum Fragments<'a> {
 
 /// Why a fragment can't be written: the first fault, of an assignment that of its column and then that of its item. Numbers
 /// of rows, items and names begin at 0.
+#[non_exhaustive]
 #[derive(Clone, Copy, Debug, PartialEq, Eq)]
 pub enum Fault {
     /// A list without items, no rows, no identifiers, no assignments, or a qualified name without names.

@@ -3,6 +3,7 @@ use std::fmt;
 
 /// A construct that servers read in different ways, or in which a value's digits join a number. Its message says what
 /// to write instead.
+#[non_exhaustive]
 #[derive(Clone, Copy, Debug, PartialEq, Eq, Hash)]
 pub enum Construct {
     /// `/*!`, not quiet: executed, or skipped by the version of the server. It is quiet if it is closed, white space, `,`,

@@ -2,6 +2,7 @@
 
 /// A value for a place of a query. It borrows its bytes. `Debug` shows them, of parameters and fragments too: keep it out
 /// of logs.
+#[non_exhaustive]
 #[derive(Clone, Copy, Debug, PartialEq)]
 pub enum Value<'a> {
     /// `NULL`.
