@@ -383,6 +383,8 @@ impl Call<'_> {
             13 => Error::NotAlone {
                 place,
                 position,
+                name: Name::of_any(words::name_of_place(self.query(), position))?,
+                neighbour: words::neighbour(self.query(), position),
                 word: Name::of_any(words::word_of_place(self.query(), position))?,
                 beside_point: words::is_beside_point(self.query(), position),
             },

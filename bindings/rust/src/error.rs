@@ -95,6 +95,10 @@ pub enum Error {
         place: usize,
         /// Byte of the query at which the place begins.
         position: usize,
+        /// The name that stands there; none for a `?`.
+        name: Option<Name>,
+        /// The byte that it touches: the one before it, or else the one after it.
+        neighbour: u8,
         /// The word that begins with the name of the place, if it has one and the word is longer.
         word: Option<Name>,
         /// Whether a point stands directly before or after it, as in `b.:c`: then one place for the whole name takes a
@@ -169,6 +173,18 @@ impl fmt::Display for Alphabet<'_> {
     }
 }
 
+/// A place, by its name or its number, behind what is given for it.
+struct For<'a>(&'a Option<String>, usize);
+
+impl fmt::Display for For<'_> {
+    fn fmt(&self, f: &mut fmt::Formatter<'_>) -> fmt::Result {
+        match self {
+            For(Some(name), _) => write!(f, " for `:{name}`"),
+            For(None, place) => write!(f, " for place {place}"),
+        }
+    }
+}
+
 impl Error {
     /// The number of the refusal in mysql_params.h; none for the two that are told before the call. That of
     /// [`Error::UnknownAnswer`] is what the archive returned.
@@ -238,52 +254,61 @@ impl fmt::Display for Error {
                 write!(f, "Unsupported column type {column_type}")
             }
             Error::FormMixed { .. } => write!(f, "Named and positional params in one form"),
-            Error::RepeatedName { name, .. } => {
-                write!(f, "Redefinition of named parameter `{name}'")
-            }
-            Error::Mixed => write!(f, "Named and positional params in one query"),
+            Error::RepeatedName { name, .. } => write!(f, "`:{name}` is given twice"),
+            Error::Mixed => write!(f, "The query has both `:name` and `?`: write one of them"),
             Error::Missing { name, word, .. } => {
-                let more = Alphabet(word);
-                write!(f, "Missing named parameter `{name}` for statement{more}")
+                write!(f, "`:{name}` has no value{}", Alphabet(word))
             }
             Error::NamedForPositional { word } => {
                 let more = Alphabet(word);
                 write!(
                     f,
-                    "Named params given where positional params are expected{more}"
-                )?;
-                match word {
-                    Some(_) => Ok(()),
-                    None => write!(f, ": no `:name` stands outside of strings and comments"),
-                }
+                    "The values have names, and the query has no `:name` outside of strings and comments{more}"
+                )
             }
-            Error::PositionalForNamed => {
-                write!(f, "Positional params given where named params are expected")
-            }
+            Error::PositionalForNamed => write!(
+                f,
+                "The query has names: give the values by name, as params! {{ \"id\" => 42 }}"
+            ),
             Error::MarkCount { marks, values } => {
-                write!(f, "Query has {marks} marks and {values} values")
+                write!(
+                    f,
+                    "The query has {marks} `?`, and {values} values are given"
+                )
             }
             Error::NotAlone {
-                place,
                 position,
+                name,
+                neighbour,
                 word,
                 beside_point,
+                ..
             } => {
-                write!(f, "Place {place} at byte {position} does not stand alone")?;
-                match word {
-                    None if *beside_point => write!(
+                match name {
+                    Some(name) => write!(f, "`:{name}`")?,
+                    None => write!(f, "`?`")?,
+                }
+                let neighbour = Shown(std::slice::from_ref(neighbour));
+                write!(
+                    f,
+                    " at byte {position} touches `{neighbour}`{}",
+                    Alphabet(word)
+                )?;
+                match (word, beside_point) {
+                    (Some(_), _) => Ok(()),
+                    (None, true) => write!(
                         f,
                         ": for a name with a point write one place, and give an identifier of two names"
                     ),
-                    _ => write!(f, "{}", Alphabet(word)),
+                    (None, false) => write!(f, ": put a space between"),
                 }
             }
             Error::Float { place, name } => {
-                write!(f, "Float at place {place}")?;
-                if let Some(name) = name {
-                    write!(f, ": the value of `:{name}`")?;
-                }
-                write!(f, "; give None for NaN and infinities, else a text")
+                let of = For(name, *place);
+                write!(
+                    f,
+                    "The value{of} is a float that isn't written: give None for NaN and infinities, else a text"
+                )
             }
             Error::Unsteady { position } => write!(
                 f,
@@ -300,25 +325,13 @@ impl fmt::Display for Error {
                     "Not portable at byte {position} of the query: {construct}"
                 )
             }
-            Error::Fault { place, fault, name } => {
-                write!(f, "Fragment at place {place} can't be written: {fault}")?;
-                match name {
-                    Some(name) => write!(f, ": the value of `:{name}`"),
-                    None => Ok(()),
-                }
-            }
+            Error::Fault { place, fault, name } => fault.write_of(f, For(name, *place)),
             Error::Backslash { position } => {
                 write!(f, "Backslash in a string at byte {position} of the query")
             }
             Error::UnsteadyFragment { place, name } => {
-                write!(
-                    f,
-                    "Fragment at place {place} has a name with a backslash or a byte that is not ASCII"
-                )?;
-                match name {
-                    Some(name) => write!(f, ": the value of `:{name}`"),
-                    None => Ok(()),
-                }
+                let of = For(name, *place);
+                write!(f, "A name{of} has a backslash or a byte that is not ASCII")
             }
             Error::UnknownAnswer { number } => write!(f, "Unknown answer {number} of the archive"),
         }

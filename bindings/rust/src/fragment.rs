@@ -239,28 +239,44 @@ impl Fault {
     }
 }
 
-impl fmt::Display for Fault {
-    fn fmt(&self, f: &mut fmt::Formatter<'_>) -> fmt::Result {
+impl Fault {
+    /// Writes the message with what follows its subject, as "The list for `:ids` is empty".
+    pub(crate) fn write_of(
+        &self,
+        f: &mut fmt::Formatter<'_>,
+        of: impl fmt::Display,
+    ) -> fmt::Result {
         match self {
-            Fault::Empty => write!(f, "it is empty"),
-            Fault::EmptyRow { row } => write!(f, "row {row} is empty"),
-            Fault::RowLength { row } => write!(f, "row {row} is not as long as the first"),
+            Fault::Empty => write!(f, "The list{of} is empty"),
+            Fault::EmptyRow { row } => write!(f, "Row {row}{of} is empty"),
+            Fault::RowLength { row } => write!(f, "Row {row}{of} is not as long as the first"),
             Fault::Number { row, item } => {
-                write!(f, "item {item} of row {row} is no exact number")
+                match (row, item) {
+                    (0, 0) => write!(f, "The Decimal{of}"),
+                    (0, _) => write!(f, "The Decimal in item {item}{of}"),
+                    _ => write!(f, "The Decimal in item {item} of row {row}{of}"),
+                }?;
+                write!(f, " is no exact number")
             }
-            Fault::EmptyName { part } => write!(f, "name {part} is empty"),
-            Fault::ZeroByte { part } => write!(f, "name {part} has a byte 0"),
-            Fault::LongName { part } => write!(f, "name {part} has more than 64 characters"),
-            Fault::TrailingSpace { part } => write!(f, "name {part} ends in a space"),
+            Fault::EmptyName { part } => write!(f, "Name {part}{of} is empty"),
+            Fault::ZeroByte { part } => write!(f, "Name {part}{of} has a byte 0"),
+            Fault::LongName { part } => write!(f, "Name {part}{of} has more than 64 characters"),
+            Fault::TrailingSpace { part } => write!(f, "Name {part}{of} ends in a space"),
             Fault::Keyword => write!(
                 f,
-                "it is none of the keywords in capitals that Fragment::Keyword lists"
+                "The keyword{of} is none of those in capitals that Fragment::Keyword lists"
             ),
             Fault::Backslash { part } => write!(
                 f,
-                "name {part} has a backslash before a backquote or at its end"
+                "Name {part}{of} has a backslash before a backquote or at its end"
             ),
         }
+    }
+}
+
+impl fmt::Display for Fault {
+    fn fmt(&self, f: &mut fmt::Formatter<'_>) -> fmt::Result {
+        self.write_of(f, "")
     }
 }
 

@@ -201,12 +201,30 @@ fn answers_longer_than_the_room() {
 
 #[test]
 fn words_at_the_ends_of_queries() {
-    use crate::words::{is_beside_point, word_at, word_of_place, word_without_name};
+    use crate::words::{
+        is_beside_point, name_of_place, neighbour, word_at, word_of_place, word_without_name,
+    };
     assert_eq!(word_at(b":A\xE9", 1), Some(&b"A\xE9"[..]));
     assert_eq!(word_at(b":A\xE9", 2), Some(&b"\xE9"[..]));
     for begin in [0, 3, 4, usize::MAX] {
         assert_eq!(word_at(b":A\xE9", begin), None);
         assert_eq!(word_of_place(b":aB", begin), None);
+    }
+    for (query, position, name, touched) in [
+        ("x:aB", 1, Some("aB"), b'x'),
+        ("(:a_9(", 1, Some("a_9"), b'('),
+        ("1? ", 1, None, b'1'),
+        ("?x", 0, None, b'x'),
+        (" ?", 1, None, 0),
+        ("", 0, None, 0),
+        ("?", usize::MAX, None, 0),
+    ] {
+        assert_eq!(
+            name_of_place(query.as_bytes(), position),
+            name.map(str::as_bytes),
+            "{query}"
+        );
+        assert_eq!(neighbour(query.as_bytes(), position), touched, "{query}");
     }
     assert_eq!(word_of_place(b":a\xE9B", 0), Some(&b"a\xE9B"[..]));
     assert_eq!(word_of_place(b"?a\xE9", 0), None);

@@ -34,14 +34,37 @@ pub(crate) fn word_of_place(query: &[u8], position: usize) -> Option<&[u8]> {
     word_at(query, position.checked_add(1)?).filter(|_| colon)
 }
 
+/// What stands before the place at a byte of a query, its name, if it has one, and what stands after it.
+fn around(query: &[u8], position: usize) -> (&[u8], Option<&[u8]>, &[u8]) {
+    let (before, place) = query.split_at_checked(position).unwrap_or_default();
+    match place {
+        [b':', rest @ ..] => {
+            let name = name_of(rest);
+            (before, Some(name), &rest[name.len()..])
+        }
+        _ => (before, None, place.get(1..).unwrap_or_default()),
+    }
+}
+
+/// The name of the place at a byte of a query; none for a `?`.
+pub(crate) fn name_of_place(query: &[u8], position: usize) -> Option<&[u8]> {
+    around(query, position).1
+}
+
 /// Whether a point stands directly before or after the place at a byte of a query.
 pub(crate) fn is_beside_point(query: &[u8], position: usize) -> bool {
-    let (before, place) = query.split_at_checked(position).unwrap_or_default();
-    let after = match place {
-        [b':', rest @ ..] => &rest[name_of(rest).len()..],
-        _ => place.get(1..).unwrap_or_default(),
-    };
+    let (before, _, after) = around(query, position);
     before.last() == Some(&b'.') || after.first() == Some(&b'.')
+}
+
+/// Bytes that may stand directly before a place.
+const BEFORE_PLACES: &[u8] = b" \t\n\x0B\x0C\r(,=<>+-*/%&|^~";
+
+/// The byte that a place touches: the one before it, unless that may stand there, else the one after it.
+pub(crate) fn neighbour(query: &[u8], position: usize) -> u8 {
+    let (before, _, after) = around(query, position);
+    let before = before.last().filter(|last| !BEFORE_PLACES.contains(last));
+    *before.or(after.first()).unwrap_or(&0)
 }
 
 /// The first word after a colon that begins with a letter that no name has.

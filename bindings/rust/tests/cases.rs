@@ -10,6 +10,8 @@ use mysql_params::{
 use std::collections::HashMap;
 use std::path::Path;
 
+mod messages;
+
 /// A value with bytes of its own.
 enum Owned {
     Bytes(Vec<u8>),
@@ -51,6 +53,13 @@ struct Case {
     portable: bool,
     unportable: Option<(String, HashMap<String, String>)>,
     message: Option<String>,
+}
+
+impl Case {
+    /// The query, for messages.
+    fn query_text(&self) -> String {
+        String::from_utf8_lossy(&self.query).into_owned()
+    }
 }
 
 /// Bytes of pairs of hexadecimal digits, with spaces anywhere.
@@ -325,12 +334,17 @@ fn wanted_error(case: &Case) -> Error {
             marks: field("marks"),
             values: field("values"),
         },
-        "NOT_ALONE" => Error::NotAlone {
-            place,
-            position,
-            word,
-            beside_point: false,
-        },
+        "NOT_ALONE" => {
+            let (name, neighbour) = messages::touched(&case.query_text());
+            Error::NotAlone {
+                place,
+                position,
+                name: name.map(|name| name.as_bytes().to_vec().into()),
+                neighbour,
+                word,
+                beside_point: false,
+            }
+        }
         "FLOAT" => Error::Float {
             place,
             name: fields.get("of").cloned(),
@@ -366,7 +380,8 @@ fn expect(case: &Case, result: Result<Vec<u8>, Error>) {
             let number = number.expect("a known name") as i32 + 3;
             assert_eq!(error.number(), Some(number), "{}", case.at);
             if let Some(message) = &case.message {
-                assert_eq!(&error.to_string(), message, "{}", case.at);
+                let message = messages::in_rust(message, &case.query_text());
+                assert_eq!(error.to_string(), message, "{}", case.at);
             }
         }
     }

@@ -1,9 +1,9 @@
 //! Queries and texts that are `str`, rows that a closure makes, and what `Debug` shows of names. The texts are restated by hand
 //! from docs/RULES.md.
 use mysql_params::{
-    Error, Fragment, Fragments, Names, Params, RowError, Template, Value, bind, bind_anywhere_str,
-    bind_form, bind_fragments_anywhere_str, bind_fragments_str, bind_fragments_str_in,
-    bind_in_both_modes_str, bind_rows, names, params, row,
+    Error, Fault, Fragment, Fragments, Item, Names, Params, RowError, Template, Value, bind,
+    bind_anywhere_str, bind_form, bind_fragments_anywhere_str, bind_fragments_str,
+    bind_fragments_str_in, bind_in_both_modes_str, bind_rows, names, params, row,
 };
 use std::time::Duration;
 
@@ -101,7 +101,7 @@ fn names_in_debug() -> Result<(), Error> {
     let form = b"\x02\"\xFF\x06\x00\x02\"\xFF\x06\x00";
     let repeated = bind_form(b"?", form).expect_err("it is given twice");
     assert!(format!("{repeated:?}").ends_with(r#"name: b"\"\xff" }"#));
-    let message = r"Redefinition of named parameter `\x22\xff'";
+    let message = r"`:\x22\xff` is given twice";
     assert_eq!(repeated.to_string(), message);
     let found = names(b"SELECT :userId")?;
     let wanted = r#"Names { query: b"SELECT ?", names: ["userId"] }"#;
@@ -119,11 +119,13 @@ fn what_messages_advise() {
         let wanted = Error::NotAlone {
             place: 0,
             position,
+            name: Some(b"c".to_vec().into()),
+            neighbour: b'.',
             word: None,
             beside_point: true,
         };
         assert_eq!(error, wanted, "{query}");
-        let message = format!("Place 0 at byte {position} does not stand alone: {advice}");
+        let message = format!("`:c` at byte {position} touches `.`: {advice}");
         assert_eq!(error.to_string(), message);
     }
     let given = [Fragment::Qualified(vec!["b", "c"])];
@@ -137,9 +139,39 @@ fn what_messages_advise() {
 
     let given = [("order", Fragment::Keyword("desc"))];
     let error = bind_fragments_str("ORDER BY a :order", &Fragments::Named(&given));
-    let advice = "it is none of the keywords in capitals that Fragment::Keyword lists";
-    let message = format!("Fragment at place 0 can't be written: {advice}: the value of `:order`");
+    let message =
+        "The keyword for `:order` is none of those in capitals that Fragment::Keyword lists";
     assert_eq!(error.expect_err("it is no capital").to_string(), message);
+}
+
+#[test]
+fn messages_of_faults() {
+    let number = |text| Item::Decimal(text);
+    for (fragment, message) in [
+        (Fragment::List(vec![]), "The list for `:a` is empty"),
+        (Fragment::Rows(vec![vec![]]), "Row 0 for `:a` is empty"),
+        (
+            Fragment::Decimal("1e5"),
+            "The Decimal for `:a` is no exact number",
+        ),
+        (
+            Fragment::List(vec![number("1"), number("x")]),
+            "The Decimal in item 1 for `:a` is no exact number",
+        ),
+        (
+            Fragment::Rows(vec![vec![number("1")], vec![number("")]]),
+            "The Decimal in item 0 of row 1 for `:a` is no exact number",
+        ),
+        (Fragment::Identifier("a\0"), "Name 0 for `:a` has a byte 0"),
+    ] {
+        let error = bind_fragments_str(":a", &Fragments::Named(&[("a", fragment)]));
+        assert_eq!(error.expect_err(message).to_string(), message);
+    }
+    assert_eq!(Fault::Empty.to_string(), "The list is empty");
+    assert_eq!(
+        Fault::LongName { part: 1 }.to_string(),
+        "Name 1 has more than 64 characters"
+    );
 }
 
 /// What holds values shows none where an error carries it, as `unwrap` prints it.

@@ -70,10 +70,7 @@ fn rows_and_templates() -> Result<(), Error> {
     let rows = [rows[0], Params::Named(&other)];
     let refused = bind_rows(query, rows).expect_err("another name by its case");
     assert!(refused.texts.iter().eq([wanted[0]]));
-    assert_eq!(
-        refused.to_string(),
-        "row 1: Missing named parameter `userId` for statement"
-    );
+    assert_eq!(refused.to_string(), "row 1: `:userId` has no value");
     Ok(())
 }
 
@@ -99,17 +96,25 @@ fn queries() -> Result<(), Error> {
 fn refusals() {
     let pairs = [("A", 1.into())];
     let params = Params::Named(&pairs);
-    for query in ["SELECT x:A", "SELECT x::A", "SELECT 1:A", "SELECT 1 :A:A"] {
+    for (query, neighbour, shown) in [
+        ("SELECT x:A", b'x', "x"),
+        ("SELECT x::A", b':', ":"),
+        ("SELECT é:A", 0xA9, r"\xa9"),
+        ("SELECT 1 :A:A", b':', ":"),
+        ("SELECT (:A\")", b'"', r"\x22"),
+    ] {
         let position = query.find(":A").expect("a name");
         let error = bind(query.as_bytes(), &params).expect_err(query);
         let wanted = Error::NotAlone {
             place: 0,
             position,
+            name: Some(b"A".to_vec().into()),
+            neighbour,
             word: None,
             beside_point: false,
         };
         assert_eq!(error, wanted, "{query}");
-        let message = format!("Place 0 at byte {position} does not stand alone");
+        let message = format!("`:A` at byte {position} touches `{shown}`: put a space between");
         assert_eq!(error.to_string(), message);
     }
     assert_eq!(bind(b":A, ?", &params), Err(Error::Mixed));
