@@ -143,7 +143,7 @@ export type Kind =
   | 'BACKSLASH'
   /** By bindAnywhere: an Identifier that isn't ASCII without a backslash. Take bind. */
   | 'UNSTEADY_FRAGMENT'
-  /** The connection's `variable` isn't utf8mb4. */
+  /** The connection's `variable` isn't utf8mb4, or the driver's charsetNumber isn't, for a text that isn't ASCII. */
   | 'SESSION'
   /** The text is too long for the connection. */
   | 'PACKET'

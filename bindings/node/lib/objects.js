@@ -1,5 +1,5 @@
 'use strict'
-// Objects of which the own properties count: parameters by their names, and columns by theirs.
+// Objects of which the own properties count: parameters by their names, columns by theirs, and options.
 
 /** What an object is that has no such properties, as a Promise, an iterable and a view of bytes; undefined of any other. */
 function otherOf(object) {
@@ -11,4 +11,9 @@ function otherOf(object) {
   return `a ${kind === 'Object' ? object.constructor?.name ?? 'iterable' : kind}`
 }
 
-module.exports = { otherOf }
+/** The value of an object's own property; undefined if it has none, or is no object. */
+function ownOf(object, name) {
+  return typeof object === 'object' && object !== null && Object.hasOwn(object, name) ? object[name] : undefined
+}
+
+module.exports = { otherOf, ownOf }

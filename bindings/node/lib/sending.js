@@ -6,6 +6,7 @@ const { BIND, MODE, native } = require('./native.js')
 const { judgeQuery } = require('./asked.js')
 const { BindError, SessionError, refusalOf } = require('./errors.js')
 const { giveForm, takeForm, writeParams } = require('./form.js')
+const { ownOf } = require('./objects.js')
 const calls = require('./calls.js')
 const dates = require('./dates.js')
 
@@ -20,6 +21,26 @@ const BESIDE_TEXT = 4
 const LEAVES_SESSION = /^\s*(?:select|insert|update|delete|replace|begin|start|commit|rollback|show)\b[^;]*$/i
 
 const OPTIONS = ['timezone', 'alwaysAsk']
+
+/** Whether a number is that of a collation of utf8mb4 in MySQL. */
+function isUtf8mb4(number) {
+  if (!Number.isInteger(number)) return false
+  return number === 45 || number === 46 || (number >= 224 && number <= 247) || (number >= 255 && number <= 323)
+}
+
+/**
+ * Throws unless the driver writes letters outside ASCII as utf8mb4, whatever the server takes them for. `mysql2` writes a text by
+ * charsetNumber: the last byte of a letter in GBK may be a backslash, and a letter that Latin-1 lacks may become a quote. `mysql`
+ * always writes UTF-8, but nothing shows for sure that a connection is one of `mysql`. A text in ASCII needs no such number: the
+ * question is one too, and had an answer.
+ */
+function judgeEncoding(connection) {
+  const number = ownOf(connection.config, 'charsetNumber')
+  if (isUtf8mb4(number)) return
+  const charset = number === undefined ? "in a character set that it doesn't show" : `by charsetNumber ${number}, not utf8mb4's`
+  const message = `The driver writes texts ${charset}, and this one isn't ASCII: connect with charset: 'utf8mb4'`
+  throw new SessionError(message, { kind: 'SESSION', variable: 'charsetNumber', value: String(number) })
+}
 
 /** What a connection answered, and who waits for it. */
 class Session {
@@ -160,12 +181,13 @@ function writtenOf(params, zone) {
 }
 
 /** The text of a query in the mode of a connection, or what refuses it. */
-function textFor(told, query, written) {
+function textFor(connection, told, query, written) {
   const flags = BIND | told.mode
   const found = native.firstUnportable(flags, query)
   if (found !== 0) throw refusalOf(found, query, flags)
   const text = calls.boundWritten(flags, query, written)
   const length = Buffer.byteLength(text)
+  if (length !== text.length) judgeEncoding(connection)
   if (length > told.most) {
     const most = `the connection's max_allowed_packet lets ${told.most} through`
     throw new BindError(`The text has ${length} bytes, and ${most}`, { kind: 'PACKET', length, most: told.most })
@@ -180,7 +202,7 @@ function sendOver(connection, query, written, always, done) {
   session.ask(always, (error, told) => {
     try {
       if (error) throw error
-      session.send(query, textFor(told, query, written), done)
+      session.send(query, textFor(connection, told, query, written), done)
     } catch (fault) {
       done(fault)
     }

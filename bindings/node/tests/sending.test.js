@@ -5,14 +5,15 @@ const assert = require('node:assert/strict')
 const { test } = require('node:test')
 const { mysqlParams } = require('./shared_cases.js')
 
-const { askAgain, execute, query } = mysqlParams
+const { askAgain, bind, execute, query } = mysqlParams
 const HOSTILE = "\\' , 7 #"
 
 /** A connection with callbacks to a session that is played: it takes a text without parameters. */
 class Connection {
   constructor(session = {}, config = {}) {
     this.session = { m: '', c: 'utf8mb4', n: 'utf8mb4', p: 1 << 20, ...session }
-    Object.assign(this, { config, threadId: 7, asked: 0, sent: [], released: 0 })
+    this.config = { charsetNumber: 224, ...config }
+    Object.assign(this, { threadId: 7, asked: 0, sent: [], released: 0 })
   }
 
   query(options, done) {
@@ -118,6 +119,54 @@ test('connections and pools with promises', async () => {
   core.config.queryFormat = () => {}
   await assert.rejects(query(pool, 'SELECT 1'), { name: 'TypeError', message: /queryFormat/ })
   assert.equal(core.released, 4)
+})
+
+// Character sets in which the last byte of a letter may be a backslash, as TextDecoder names them: such a letter, its bytes, and
+// the numbers of MySQL's collations of gbk, big5, cp932, sjis and gb18030.
+const SETS = [
+  ['gbk', '誠', 'd55c', [28, 87]],
+  ['big5', '功', 'a55c', [1, 84]],
+  ['shift_jis', '表', '955c', [95, 96]],
+  ['shift_jis', '表', '955c', [13, 88]],
+  ['gb18030', '誠', 'd55c', [248, 249, 250]]
+]
+
+test('a text that the driver would write in another character set', async () => {
+  for (const [name, letter, hex, numbers] of SETS) {
+    const bytes = Buffer.from(hex, 'hex')
+    assert.equal(new TextDecoder(name).decode(bytes), letter)
+    const value = `${letter}' OR 1=1 -- `
+    // What a server with utf8mb4 would read behind the string.
+    const written = bind('SELECT ?', [value]).replace(letter, bytes.toString('latin1'))
+    assert.equal(written.replace(/^SELECT '(?:[^'\\]|\\.)*'/s, ''), " OR 1=1 -- '")
+    for (const charsetNumber of numbers) {
+      const connection = new Connection({}, { charsetNumber })
+      const message = `The driver writes texts by charsetNumber ${charsetNumber}, not utf8mb4's, and this one isn't ASCII: ` +
+        "connect with charset: 'utf8mb4'"
+      const wanted = { name: 'SessionError', kind: 'SESSION', variable: 'charsetNumber', value: String(charsetNumber), message }
+      await assert.rejects(query(connection, 'SELECT ?', [value]), wanted)
+      await assert.rejects(execute(connection, `SELECT '${letter}', ?`, [1]), wanted)
+      await query(connection, 'SELECT ?', [HOSTILE])
+      assert.deepEqual(connection.sent, ["SELECT '\\\\\\' , 7 #'"])
+    }
+  }
+  assert.equal(Buffer.from('ħ', 'latin1').toString('latin1'), "'") // As mysql2 writes Latin-1.
+  const others = [0, 5, 8, 11, 33, 35, 54, 63, 83, 192, 223, 248, 254, 324, 608, 1069, 2304, '45', 45.5, NaN, null, 45n]
+  for (const charsetNumber of others) {
+    await assert.rejects(query(new Connection({}, { charsetNumber }), 'SELECT ?', ['ħ OR 1=1 -- ']), { kind: 'SESSION' })
+  }
+  const hidden = new Connection()
+  for (const config of [undefined, null, 7, {}, { charsetNumber: undefined }, Object.create({ charsetNumber: 224 })]) {
+    hidden.config = config
+    await assert.rejects(query(hidden, 'SELECT ?', ['é']), { kind: 'SESSION', value: 'undefined',
+      message: /^The driver writes texts in a character set that it doesn't show, and/ })
+  }
+  assert.deepEqual(hidden.sent, [])
+  for (const charsetNumber of [45, 46, 224, 246, 247, 255, 278, 323]) {
+    const connection = new Connection({}, { charsetNumber })
+    await query(connection, 'SELECT ?', ['誠ħ\u{1F600}'])
+    assert.deepEqual(connection.sent, ["SELECT '誠ħ\u{1F600}'"])
+  }
 })
 
 test('faults of the driver', async () => {

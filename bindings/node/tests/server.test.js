@@ -251,6 +251,11 @@ test('another character set is refused', { skip }, async () => {
     value: 'latin1' })
   await plain(connection, 'SET NAMES utf8mb4')
   await query(connection, 'SELECT 1')
+  // The driver's own character set counts too.
+  const other = connect({ charset: 'gbk' })
+  await plain(other, 'SET NAMES utf8mb4')
+  await assert.rejects(query(other, 'SELECT ?', ["誠' OR 1=1 -- "]), { kind: 'SESSION', variable: 'charsetNumber', value: '28' })
+  await query(other, 'SELECT ?', ["it's"])
 })
 
 test('refusals send nothing', { skip }, async () => {
