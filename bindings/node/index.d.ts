@@ -249,8 +249,9 @@ export interface SendOptions extends ZoneOptions {
 /**
  * Binds a query in the mode of a connection, and sends the text. It resolves to the driver's results and fields.
  *
- * A connection is asked for its mode before its first text, and again after the driver has connected anew; one of `mysql` also
- * after a `SET`, a `CALL` or `changeUser`. An unknown option is a TypeError.
+ * A connection is asked for its mode before its first text, and again after the driver has connected anew. A connection of `mysql`
+ * is asked again after each command that may change the mode, as a `SET`, a `CALL` or `changeUser`; one of `mysql2`, which tells of
+ * no command, before each text. An unknown option is a TypeError.
  */
 export function query(
   connection: Sender,
@@ -262,5 +263,5 @@ export function query(
 /** The same, which resolves to the results alone: of a statement without rows `affectedRows`, `insertId` and so on. */
 export function execute(connection: Sender, query: string, params?: Params, options?: SendOptions): Promise<any>
 
-/** Has a connection asked anew before its next text, after a `SET` of sql_mode or of a character set. */
+/** Has a connection, or each connection of a pool, asked anew before its next text. */
 export function askAgain(connection: Sender): void

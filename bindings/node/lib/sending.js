@@ -1,7 +1,6 @@
 'use strict'
 // Bound texts sent over a connection of `mysql` or `mysql2`, which is asked for what a text depends on.
 
-const { EventEmitter } = require('node:events')
 const { BIND, MODE, native } = require('./native.js')
 const { judgeQuery } = require('./asked.js')
 const { BindError, SessionError, refusalOf } = require('./errors.js')
@@ -17,10 +16,16 @@ const QUESTION =
 // attributes.
 const BESIDE_TEXT = 4
 
-// Statements that leave the mode and the character sets as they are.
+// Statements that leave the mode and the character sets as they are, and stand by themselves. What a routine or a trigger sets is
+// set back at its end.
 const LEAVES_SESSION = /^\s*(?:select|insert|update|delete|replace|begin|start|commit|rollback|show)\b[^;]*$/i
 
 const OPTIONS = ['timezone', 'alwaysAsk']
+const WANTED = 'a connection or a pool of mysql or mysql2 is wanted'
+
+function isAscii(text) {
+  return Buffer.byteLength(text) === text.length
+}
 
 /** Whether a number is that of a collation of utf8mb4 in MySQL. */
 function isUtf8mb4(number) {
@@ -42,90 +47,135 @@ function judgeEncoding(connection) {
   throw new SessionError(message, { kind: 'SESSION', variable: 'charsetNumber', value: String(number) })
 }
 
+/** Whether a command of a driver leaves the session as it is. A bundle may have other names of classes, and then it may not. */
+function leavesSession(command) {
+  return typeof command?.sql === 'string' ? LEAVES_SESSION.test(command.sql) : command?.constructor?.name === 'Ping'
+}
+
+/**
+ * Whether all commands that stand behind a question leave the session as it is, by the queue of `mysql2`, which tells of none.
+ * Throws if there is no such queue.
+ */
+function leavesAnswer({ _command: current, _commands: queue }) {
+  const queued = queue?.length === 0 ? [] : queue?.toArray?.()
+  if (!Array.isArray(queued)) throw new TypeError(`the connection shows no queue of commands: ${WANTED}`)
+  const commands = current ? [current, ...queued] : queued
+  // What isn't ASCII may be another statement as the driver writes it.
+  return commands.every((command) => leavesSession(command) && isAscii(command.sql ?? ''))
+}
+
+// How often the connections of a pool were to be asked anew.
+let generation = 0
+
 /** What a connection answered, and who waits for it. */
 class Session {
   constructor(connection) {
     this.connection = connection
-    this.forget()
     this.waiting = []
-    this.isSending = false
-    // `mysql` tells of each command. One that is none of ours may change the session.
-    if (connection instanceof EventEmitter || typeof connection.on === 'function') {
-      connection.on('enqueue', (command) => this.see(command))
-    }
+    // The text that the driver is being given.
+    this.giving = null
+    // Whether the driver tells of each command, as `mysql` does. What another answers is soon stale.
+    this.tells = false
+    this.forget()
+    connection.prependListener?.('enqueue', (command) => this.see(command))
   }
 
   /** Has the connection be asked anew. An answer that is under way doesn't count either. */
   forget() {
     this.told = null
-    this.thread = undefined
     this.question = null
   }
 
+  /** Sees a command that the driver tells of. */
   see(command) {
-    if (this.isSending) return
-    const kind = command?.constructor?.name
-    if (kind === 'ChangeUser' || (kind === 'Query' && !LEAVES_SESSION.test(String(command.sql)))) this.forget()
+    if (this.giving !== null && command?.sql === this.giving) {
+      this.tells = true
+      this.giving = null
+      return
+    }
+    // What comes before the question, as a handshake, doesn't change its answer.
+    if (this.giving !== QUESTION && !leavesSession(command)) this.forget()
   }
 
   /** Sends the text of a query, and has the connection asked anew if that may change the session. */
   send(query, text, done) {
-    this.give(text, done)
-    if (!LEAVES_SESSION.test(query)) this.forget()
+    try {
+      this.give(text, done)
+    } finally {
+      if (!LEAVES_SESSION.test(query)) this.forget()
+    }
   }
 
   /** Gives the driver a text without parameters, and nothing that it would put into the text. */
   give(text, done, more) {
-    const { connection } = this
-    // With an array `mysql2` looks for no names in the text.
-    const values = connection.config?.namedPlaceholders ? { values: [] } : {}
-    this.isSending = true
+    const { connection, giving } = this
+    const { config } = connection
+    // What the driver looks for is here, so that it finds nothing on Object.prototype.
+    const options = { sql: text, values: [], timeout: undefined, infileStreamFactory: undefined }
+    for (const name of ['typeCast', 'nestTables', 'rowsAsArray']) options[name] = ownOf(config, name)
+    this.giving = text
     try {
-      connection.query({ ...more, sql: text, ...values }, done)
+      connection.query({ ...options, ...more }, done)
     } finally {
-      this.isSending = false
+      this.giving = giving
     }
   }
 
   /** Calls with what the connection answered, now or before; or with an error. */
   ask(always, use) {
     const { told, thread, connection } = this
-    if (!always && told !== null && thread === connection.threadId) {
+    if (!always && told?.generation === generation && thread === connection.threadId) {
       use(null, told)
       return
     }
     this.waiting.push(use)
-    if (this.question === null || always) this.askNow()
+    if (always || this.question === null) this.askNow()
   }
 
   askNow() {
-    const question = {}
+    const question = { generation }
     this.question = question
     this.told = null
-    const answered = (error, rows) => {
-      if (this.question !== question && !error) {
-        // A command that may have changed the session came between, or a later question.
-        if (this.question === null) this.askNow()
-        return
-      }
-      this.question = null
-      let told = null
-      try {
-        if (!error) told = toldBy(rows[0])
-      } catch (fault) {
-        error = fault
-      }
-      this.told = told
-      this.thread = this.connection.threadId
-      const waiting = this.waiting
-      this.waiting = []
-      for (const use of waiting) use(error, told)
-    }
+    const answered = (error, rows) => this.answer(question, error, rows)
     try {
       this.give(QUESTION, answered, { typeCast: true, nestTables: false, rowsAsArray: false })
     } catch (fault) {
       answered(fault)
     }
+  }
+
+  /** Takes the answer to a question, or the error. */
+  answer(question, error, rows) {
+    if (this.question !== null && this.question !== question) return // A later question is under way.
+    try {
+      if (error) throw error
+      const isStale = this.question === null || question.generation !== generation
+      if (isStale || !(this.tells || leavesAnswer(this.connection))) {
+        if (this.waiting.length > 0) this.askNow()
+        return
+      }
+      this.told = { ...toldBy(rows[0]), generation }
+      this.thread = this.connection.threadId
+    } catch (fault) {
+      error = fault
+    }
+    this.question = null
+    this.serve(error)
+  }
+
+  /** Calls those who wait, until one of them sends what may change the session: the others wait for another answer. */
+  serve(error) {
+    const { told, waiting } = this
+    this.waiting = []
+    for (const [i, use] of waiting.entries()) {
+      if (this.told !== told) {
+        this.waiting = waiting.slice(i).concat(this.waiting)
+        break
+      }
+      use(error, told)
+    }
+    if (!this.tells) this.told = null
+    if (this.waiting.length > 0 && this.question === null) this.askNow()
   }
 }
 
@@ -153,13 +203,14 @@ function sessionOf(connection) {
 
 /** The driver's connection or pool with callbacks, of one with promises too. */
 function coreOf(given) {
-  if (given !== null && typeof given === 'object') {
-    for (const inner of [given.pool, given.connection]) {
-      if (inner !== null && typeof inner === 'object' && typeof inner.query === 'function') return inner
-    }
-    if (typeof given.query === 'function') return given
+  for (const core of [ownOf(given, 'pool'), ownOf(given, 'connection'), given]) {
+    if (typeof core === 'object' && core !== null && typeof core.query === 'function') return core
   }
-  throw new TypeError('a connection or a pool of mysql or mysql2 is wanted')
+  throw new TypeError(WANTED)
+}
+
+function isPool(core) {
+  return typeof core.getConnection === 'function'
 }
 
 /** Throws for a driver that would read the text again. */
@@ -187,7 +238,7 @@ function textFor(connection, told, query, written) {
   if (found !== 0) throw refusalOf(found, query, flags)
   const text = calls.boundWritten(flags, query, written)
   const length = Buffer.byteLength(text)
-  if (length !== text.length) judgeEncoding(connection)
+  if (!isAscii(text)) judgeEncoding(connection)
   if (length > told.most) {
     const most = `the connection's max_allowed_packet lets ${told.most} through`
     throw new BindError(`The text has ${length} bytes, and ${most}`, { kind: 'PACKET', length, most: told.most })
@@ -223,7 +274,7 @@ function send(given, query, params, options, done) {
   const core = coreOf(given)
   const written = writtenOf(params, dates.zoneOf(own.timezone))
   const always = isAlways(own.alwaysAsk)
-  if (typeof core.getConnection !== 'function') {
+  if (!isPool(core)) {
     sendOver(core, query, written, always, done)
     return
   }
@@ -255,7 +306,9 @@ function execute(connection, sql, params, options = {}) {
 }
 
 function askAgain(connection) {
-  sessions.get(coreOf(connection))?.forget()
+  const core = coreOf(connection)
+  if (isPool(core)) generation++
+  else sessions.get(core)?.forget()
 }
 
 module.exports = { askAgain, execute, query }

@@ -1,36 +1,102 @@
 'use strict'
-// Texts sent over drivers that are played here, in the shapes of mysql2: server.test.js has a real driver and server.
+// Texts sent over drivers that are played here, in the shapes of mysql2 and mysql: server.test.js has a real driver and server.
 
 const assert = require('node:assert/strict')
+const { EventEmitter } = require('node:events')
 const { test } = require('node:test')
 const { mysqlParams } = require('./shared_cases.js')
 
 const { askAgain, bind, execute, query } = mysqlParams
 const HOSTILE = "\\' , 7 #"
+const QUESTION = /^SELECT @@sql_mode AS m,/
 
-/** A connection with callbacks to a session that is played: it takes a text without parameters. */
-class Connection {
+/** A queue of commands, as mysql2's connections have one. */
+class Queue {
+  #commands = []
+  #first = 0
+
+  get length() {
+    return this.#commands.length - this.#first
+  }
+
+  toArray() {
+    return this.#commands.slice(this.#first)
+  }
+
+  push(command) {
+    this.#commands.push(command)
+  }
+
+  shift() {
+    return this.length === 0 ? undefined : this.#commands[this.#first++]
+  }
+}
+
+/** A connection as mysql2's to a session that is played: one command after another, and nothing tells of them. */
+class Connection extends EventEmitter {
   constructor(session = {}, config = {}) {
+    super()
     this.session = { m: '', c: 'utf8mb4', n: 'utf8mb4', p: 1 << 20, ...session }
     this.config = { charsetNumber: 224, ...config }
-    Object.assign(this, { threadId: 7, asked: 0, sent: [], released: 0 })
+    this.queue = new Queue()
+    Object.assign(this, { threadId: 7, asked: 0, sent: [], released: 0, _commands: this.queue, _command: undefined })
   }
 
   query(options, done) {
-    const { sql, values, typeCast } = options
+    const isOurs = typeof options === 'object'
+    const command = this.commandOf(isOurs ? options.sql : options, done)
+    if (isOurs) this.judge(options)
+    this.enqueue(command)
+    return command
+  }
+
+  enqueue(command) {
+    if (this._command) this.queue.push(command)
+    else this.start(command)
+  }
+
+  /** The options of the package hide what stands on Object.prototype. */
+  judge(options) {
+    assert.equal(Object.getPrototypeOf(options), Object.prototype)
+    assert.deepEqual(Object.keys(options).sort(),
+      ['infileStreamFactory', 'nestTables', 'rowsAsArray', 'sql', 'timeout', 'typeCast', 'values'])
+    const { sql, values, timeout, infileStreamFactory, ...others } = options
+    assert.deepEqual([values, timeout, infileStreamFactory], [[], undefined, undefined])
+    const { typeCast, nestTables, rowsAsArray } = Object.assign(Object.create(null), this.config)
+    const ofQuestion = { typeCast: true, nestTables: false, rowsAsArray: false }
+    assert.deepEqual(others, QUESTION.test(sql) ? ofQuestion : { typeCast, nestTables, rowsAsArray })
+  }
+
+  commandOf(sql, done) {
     assert.equal(typeof sql, 'string')
     assert.equal(typeof done, 'function')
-    // With an array of values mysql2 looks for no names; without `namedPlaceholders` none is given.
-    assert.deepEqual(values, this.config.namedPlaceholders ? [] : undefined)
-    const isQuestion = sql.includes('@@sql_mode')
-    if (isQuestion) {
-      assert.equal(typeCast, true)
+    return Object.assign(new Query(sql), { done })
+  }
+
+  start(command) {
+    this._command = command
+    setImmediate(() => {
+      const answer = this.run(command.sql)
+      this._command = this.queue.shift()
+      if (this._command) this.start(this._command)
+      process.nextTick(() => command.done(this.fault ?? null, answer, ['fields']))
+    })
+  }
+
+  run(sql) {
+    if (QUESTION.test(sql)) {
       this.asked++
-    } else {
-      this.sent.push(sql)
+      return [{ ...this.session }]
     }
-    const answer = isQuestion ? [{ ...this.session }] : { affectedRows: this.sent.length }
-    setImmediate(() => done(this.fault ?? null, answer, ['fields']))
+    const [, mode] = /SET sql_mode = '(.*)'/.exec(sql) ?? []
+    if (mode !== undefined) this.session.m = mode
+    this.sent.push(sql)
+    return { affectedRows: this.sent.length }
+  }
+
+  /** Sends a text of the program's own. */
+  plain(sql) {
+    return new Promise((resolve) => this.query(sql, resolve))
   }
 
   release() {
@@ -38,13 +104,40 @@ class Connection {
   }
 }
 
-test('a connection is asked once', async () => {
-  const connection = new Connection()
+class Query {
+  constructor(sql) {
+    this.sql = sql
+  }
+}
+
+/** A connection as those of mysql, which tells of each command by an event. */
+class Telling extends Connection {
+  enqueue(command) {
+    super.enqueue(command)
+    this.emit('enqueue', command)
+  }
+}
+
+const [PLAIN, ESCAPED] = ["SELECT '\\'", "SELECT '\\\\'"]
+const [WITHOUT, WITH] = ["SET sql_mode = 'NO_BACKSLASH_ESCAPES'", "SET sql_mode = ''"]
+
+test('a connection that tells of its commands is asked once', async () => {
+  const connection = new Telling()
   assert.deepEqual(await query(connection, 'SELECT ?', [HOSTILE]), [{ affectedRows: 1 }, ['fields']])
   assert.deepEqual(await execute(connection, 'SELECT ?', [HOSTILE]), { affectedRows: 2 })
   await Promise.all([1, 2, 3].map((id) => query(connection, 'SELECT :id', { id })))
   assert.deepEqual(connection.sent, [...Array(2).fill("SELECT '\\\\\\' , 7 #'"), 'SELECT 1', 'SELECT 2', 'SELECT 3'])
   assert.equal(connection.asked, 1)
+})
+
+test('a connection that tells of no command is asked before each text', async () => {
+  const connection = new Connection()
+  for (const mode of [WITHOUT, WITH, WITHOUT]) {
+    await connection.plain(mode)
+    await query(connection, 'SELECT ?', ['\\'])
+  }
+  assert.deepEqual(connection.sent, [WITHOUT, PLAIN, WITH, ESCAPED, WITHOUT, PLAIN])
+  assert.equal(connection.asked, 3)
 })
 
 test('the call of the first page', async () => {
@@ -54,9 +147,19 @@ test('the call of the first page', async () => {
 })
 
 test('calls at once ask once', async () => {
-  const connection = new Connection()
-  await Promise.all([1, 2, 3].map((id) => query(connection, 'SELECT :id', { id })))
-  assert.deepEqual([connection.asked, connection.sent], [1, ['SELECT 1', 'SELECT 2', 'SELECT 3']])
+  for (const connection of [new Connection(), new Telling()]) {
+    await Promise.all([1, 2, 3].map((id) => query(connection, 'SELECT :id', { id })))
+    assert.deepEqual([connection.asked, connection.sent], [1, ['SELECT 1', 'SELECT 2', 'SELECT 3']])
+  }
+})
+
+test('calls at once, of which one changes the mode', async () => {
+  for (const connection of [new Connection(), new Telling()]) {
+    const sent = [query(connection, 'SELECT ?', ['\\']), query(connection, 'SET sql_mode = ?', ['NO_BACKSLASH_ESCAPES']),
+      query(connection, 'SELECT ?', ['\\']), query(connection, 'SELECT ?', ['\\'])]
+    await Promise.all(sent)
+    assert.deepEqual([connection.asked, connection.sent], [2, [ESCAPED, WITHOUT, PLAIN, PLAIN]])
+  }
 })
 
 test('the mode of the connection', async () => {
@@ -67,11 +170,11 @@ test('the mode of the connection', async () => {
   }
   const connection = new Connection({ m: 'MY_NO_BACKSLASH_ESCAPES' })
   await query(connection, 'SELECT ?', ['\\'])
-  assert.deepEqual(connection.sent, ["SELECT '\\\\'"])
+  assert.deepEqual(connection.sent, [ESCAPED])
 })
 
 test('it is asked again', async () => {
-  const connection = new Connection()
+  const connection = new Telling()
   await query(connection, 'SELECT ?', ['\\'])
   connection.session.m = 'NO_BACKSLASH_ESCAPES'
   askAgain(connection)
@@ -84,25 +187,76 @@ test('it is asked again', async () => {
   connection.session.m = ''
   await query(connection, 'SET sql_mode = ?', [''])
   await query(connection, 'SELECT ?', ['\\'])
-  const [plain, escaped] = ["SELECT '\\'", "SELECT '\\\\'"]
-  assert.deepEqual(connection.sent, [escaped, plain, escaped, plain, "SET sql_mode = ''", escaped])
+  assert.deepEqual(connection.sent, [ESCAPED, PLAIN, ESCAPED, PLAIN, WITH, ESCAPED])
   assert.equal(connection.asked, 5)
   askAgain(new Connection()) // It wasn't asked yet.
-  await assert.rejects(query(connection, 'SELECT 1', [], { alwaysAsk: 1 }), { name: 'TypeError', message: 'alwaysAsk is true or false' })
+  await assert.rejects(query(connection, 'SELECT 1', [], { alwaysAsk: 1 }),
+    { name: 'TypeError', message: 'alwaysAsk is true or false' })
+})
+
+test('the connections of a pool are asked again', async () => {
+  const connections = [new Telling(), new Telling()]
+  const pool = { query() {}, getConnection: (done) => done(null, connections[0]) }
+  for (const given of [pool, { pool, query() {} }]) {
+    for (const [mode, wanted] of [['', ESCAPED], ['NO_BACKSLASH_ESCAPES', PLAIN]]) {
+      for (const connection of connections) connection.session.m = mode
+      askAgain(given)
+      await query(given, 'SELECT ?', ['\\'])
+      await query(connections[1], 'SELECT ?', ['\\']) // One that the program took from the pool itself.
+      assert.deepEqual(connections.map((connection) => connection.sent.at(-1)), [wanted, wanted])
+    }
+  }
+  assert.deepEqual(connections.map((connection) => connection.asked), [4, 4])
+  askAgain(pool)
+  const sent = query(pool, 'SELECT ?', ['\\'])
+  askAgain(pool) // The question is under way.
+  await sent
+  assert.equal(connections[0].asked, 6)
 })
 
 test('it is asked again while a question is under way', async () => {
-  const connection = new Connection()
+  const connection = new Telling()
   const sent = query(connection, 'SELECT ?', ['\\'])
   connection.session.m = 'NO_BACKSLASH_ESCAPES' // The program has sent a SET behind the question.
   askAgain(connection)
   await sent
-  assert.deepEqual([connection.sent, connection.asked], [["SELECT '\\'"], 2])
+  assert.deepEqual([connection.sent, connection.asked], [[PLAIN], 2])
   const always = query(connection, 'SELECT ?', ['\\'], { alwaysAsk: true })
   const other = query(connection, 'SELECT ?', ['\\'], { alwaysAsk: true })
   connection.session.m = ''
   await Promise.all([always, other])
   assert.deepEqual([connection.sent.length, connection.asked], [3, 4])
+})
+
+test('commands of the program behind a question', async () => {
+  for (const connection of [new Connection(), new Telling()]) {
+    const sent = query(connection, 'SELECT ?', ['\\'])
+    const set = connection.plain(WITHOUT)
+    const other = connection.plain('SELECT 1')
+    await sent
+    assert.deepEqual([connection.sent, connection.asked], [[WITHOUT, 'SELECT 1', PLAIN], 2])
+    await Promise.all([set, other])
+    await connection.plain(WITH)
+    const again = query(connection, 'SELECT ?', ['\\'])
+    const kept = [connection.plain('SELECT 1'), connection.plain('SELECT 2')]
+    await Promise.all([again, ...kept])
+    assert.deepEqual([connection.sent.slice(4), connection.asked], [['SELECT 1', 'SELECT 2', ESCAPED], 3])
+  }
+  // As mysql2 writes Latin-1, the letter is a semicolon.
+  assert.equal(Buffer.from('Ļ', 'latin1').toString('latin1'), ';')
+  const connection = new Connection({}, { charsetNumber: 8 })
+  const sent = query(connection, 'SELECT ?', ['\\'])
+  await Promise.all([sent, connection.plain(`SELECT 1Ļ ${WITHOUT}`)])
+  assert.deepEqual(connection.sent.at(-1), PLAIN)
+})
+
+test('a driver that shows neither its commands nor their queue', async () => {
+  for (const queue of [undefined, null, {}, { length: 1 }, { length: 1, toArray: () => 'x' }]) {
+    const connection = Object.assign(new Connection(), { _commands: queue })
+    await assert.rejects(query(connection, 'SELECT 1'), { name: 'TypeError',
+      message: 'the connection shows no queue of commands: a connection or a pool of mysql or mysql2 is wanted' })
+    assert.deepEqual(connection.sent, [])
+  }
 })
 
 test('connections and pools with promises', async () => {
@@ -113,7 +267,7 @@ test('connections and pools with promises', async () => {
   for (const given of [pool, { pool, query: async () => assert.fail() }]) await query(given, 'SELECT ?', [1])
   await assert.rejects(query(pool, 'SELECT :a', {}), { code: 9 })
   await assert.rejects(query(pool, 'SELECT ?', [{}]), { name: 'TypeError' })
-  assert.deepEqual([core.asked, core.released], [1, 3])
+  assert.deepEqual([core.asked, core.released], [4, 3])
   const empty = { query() {}, getConnection: (done) => done(new Error('no connection')) }
   await assert.rejects(query(empty, 'SELECT 1'), { message: 'no connection' })
   core.config.queryFormat = () => {}
@@ -192,27 +346,62 @@ test('faults of the driver', async () => {
 })
 
 test('commands that the driver tells of', async () => {
-  const { EventEmitter } = require('node:events')
-  class Query { constructor(sql) { this.sql = sql } }
   class ChangeUser {}
   class Ping {}
-  const connection = Object.assign(new EventEmitter(), new Connection())
-  connection.query = function (options, done) {
-    this.emit('enqueue', new Query(options.sql))
-    Connection.prototype.query.call(this, options, done)
-  }
+  const a = class { constructor(sql) { this.sql = sql } } // As a minified bundle has it.
+  const connection = new Telling()
   const kept = ['SELECT 1', ' insert into t values (1)', 'COMMIT', 'UPDATE t SET a = 1', 'START TRANSACTION', 'SHOW TABLES']
-  const lost = ["SET sql_mode = ''", 'CALL p()', 'SELECT 1; SET NAMES gbk', '/* x */ SET NAMES gbk', 'SELECTED', 'USE d', '']
+  const lost = [WITHOUT, 'CALL p()', 'SELECT 1; SET NAMES gbk', '/* x */ SET NAMES gbk', 'SELECTED', 'USE d', '',
+    "SELECT ';'", `/*!${WITHOUT}*/`, 'SET STATEMENT max_statement_time = 1 FOR SELECT 1', undefined, null, 7, ['SELECT 1'],
+    { toString: () => 'SELECT 1' }]
   await query(connection, 'SELECT 1')
   for (const sql of kept) {
-    connection.emit('enqueue', new Query(sql))
-    connection.emit('enqueue', new Ping())
+    for (const command of [new Query(sql), new a(sql), { sql }, new Ping()]) connection.emit('enqueue', command)
     await query(connection, 'SELECT 1')
     assert.equal(connection.asked, 1, sql)
   }
-  for (const [i, command] of [...lost.map((sql) => new Query(sql)), new ChangeUser()].entries()) {
+  const commands = lost.flatMap((sql) => [new Query(sql), new a(sql)])
+  for (const [i, command] of [...commands, new ChangeUser(), new (class b {})(), undefined, null, 'SELECT 1'].entries()) {
     connection.emit('enqueue', command)
     await query(connection, 'SELECT 1')
-    assert.equal(connection.asked, 2 + i, command.sql)
+    assert.equal(connection.asked, 2 + i, command?.sql)
+  }
+})
+
+test('commands within the driver\'s call', async () => {
+  // A handshake stands before the question.
+  const connection = new Telling()
+  const { query: plain } = connection
+  connection.query = function (...given) {
+    if (this.asked === 0) this.emit('enqueue', { constructor: class Handshake {} })
+    return plain.apply(this, given)
+  }
+  await query(connection, 'SELECT 1')
+  assert.equal(connection.asked, 1)
+  // What a listener sends stands behind it.
+  const other = new Telling()
+  other.once('enqueue', () => other.plain(WITHOUT))
+  await query(other, 'SELECT ?', ['\\'])
+  assert.deepEqual([other.sent, other.asked], [[WITHOUT, PLAIN], 2])
+})
+
+test('a polluted Object.prototype', async () => {
+  const inner = { query: () => assert.fail() }
+  const polluted = { values: ['x'], typeCast: () => 'x', timeout: 1, nestTables: '_', rowsAsArray: true, charsetNumber: 224,
+    infileStreamFactory: () => {}, noBackslashEscape: true, alwaysAsk: true, pool: inner, connection: inner }
+  for (const [name, value] of Object.entries(polluted)) {
+    // eslint-disable-next-line no-extend-native
+    Object.defineProperty(Object.prototype, name, { value, configurable: true, writable: true })
+  }
+  try {
+    for (const connection of [new Telling(), new Telling({}, { typeCast: false, nestTables: '.' })]) {
+      await query(connection, 'SELECT ?, \'?\'', ['\\'])
+      await query(connection, 'SELECT ?, \'?\'', ['\\'], { timezone: 'Z' })
+      assert.deepEqual([connection.sent, connection.asked], [Array(2).fill("SELECT '\\\\', '?'"), 1])
+      connection.config = {}
+      await assert.rejects(query(connection, 'SELECT ?', ['é']), { kind: 'SESSION' })
+    }
+  } finally {
+    for (const name of Object.keys(polluted)) delete Object.prototype[name]
   }
 })
