@@ -1,7 +1,7 @@
 'use strict'
 // Bound texts sent over a connection of `mysql` or `mysql2`, which is asked for what a text depends on.
 
-const { BIND, MODE, native } = require('./native.js')
+const { BIND, CHECKED, MODE, native } = require('./native.js')
 const { judgeQuery } = require('./asked.js')
 const { BindError, SessionError, refusalOf } = require('./errors.js')
 const { giveForm, takeForm, writeParams } = require('./form.js')
@@ -234,7 +234,7 @@ function writtenOf(params, zone) {
 /** The text of a query in the mode of a connection, or what refuses it. */
 function textFor(connection, told, query, written) {
   const flags = BIND | told.mode
-  const found = native.firstUnportable(flags, query)
+  const found = native.firstUnportable(flags | CHECKED, query) // It was looked at before the connection was asked.
   if (found !== 0) throw refusalOf(found, query, flags)
   const text = calls.boundWritten(flags, query, written)
   const length = Buffer.byteLength(text)

@@ -146,6 +146,14 @@ test('the call of the first page', async () => {
   assert.deepEqual(connection.sent, ['SELECT 42'])
 })
 
+test('a query with U+FFFD', async () => {
+  const connection = new Connection()
+  await query(connection, "SELECT '\ufffd', ?", ['\ufffd'])
+  assert.deepEqual(connection.sent, ["SELECT '\ufffd', '\ufffd'"])
+  await assert.rejects(query(connection, "SELECT '\ufffd' /*! ? */", [1]), { kind: 'UNPORTABLE', position: 13 })
+  await assert.rejects(query(connection, "SELECT '\ud800'"), { name: 'TypeError' })
+})
+
 test('calls at once ask once', async () => {
   for (const connection of [new Connection(), new Telling()]) {
     await Promise.all([1, 2, 3].map((id) => query(connection, 'SELECT :id', { id })))
