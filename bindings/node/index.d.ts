@@ -170,7 +170,7 @@ export class BindError extends Error {
   readonly fault?: string
   readonly inRow?: number
   readonly item?: number
-  /** Of bindRows: the number of the row, and the texts of the rows before it. */
+  /** Of bindRows: the number of the row, and the texts of the rows before it, which aren't enumerable. */
   readonly row?: number
   readonly texts?: string[] | Buffer[]
   /** Of PACKET: the bytes of the text, and how many the connection takes. */

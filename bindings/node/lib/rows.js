@@ -16,7 +16,8 @@ function tell(fault, row, texts) {
   if (fault instanceof BindError || fault instanceof TypeError || fault instanceof RangeError) {
     fault.message = `row ${row}: ${fault.message}`
     fault.row = row
-    fault.texts = texts
+    // The texts show values, so they aren't shown with the error.
+    Object.defineProperty(fault, 'texts', { value: texts, writable: true, configurable: true })
   }
   return fault
 }

@@ -2,7 +2,9 @@
 // Each type of a value, and each refusal of one by its name.
 
 const assert = require('node:assert/strict')
+const { spawnSync } = require('node:child_process')
 const { test } = require('node:test')
+const { inspect } = require('node:util')
 const vm = require('node:vm')
 const { mysqlParams } = require('./shared_cases.js')
 
@@ -226,7 +228,6 @@ test('dates that are refused', () => {
 })
 
 test('dates that the local clocks show twice', () => {
-  const { spawnSync } = require('node:child_process')
   const program = `
     const { bind } = require(process.env.MYSQL_PARAMS)
     for (const time of [0, 1, 2, 3]) {
@@ -591,6 +592,22 @@ test('rows of all kinds', () => {
       })
     }
   }
+  // The texts show values, so nothing that writes an error does.
+  for (const bad of [[1, 2], [undefined], [NaN]]) {
+    assert.throws(() => bindRows('?', [['hunter2'], bad]), (error) => {
+      assert.deepEqual([error.row, error.texts], [1, ["'hunter2'"]])
+      assert.equal(Object.keys(error).includes('texts'), false)
+      for (const shown of [inspect(error), JSON.stringify(error), String(error.stack), JSON.stringify({ ...error })]) {
+        assert.equal(shown.includes('hunter2'), false)
+      }
+      return true
+    })
+  }
+  const program = "require(process.env.MYSQL_PARAMS).bindRows('?', [['hunter2'], [1, 2]])"
+  const { stderr, status } = spawnSync(process.execPath, ['-e', program], { encoding: 'utf8' })
+  assert.equal(status, 1)
+  assert.match(stderr, /BindError: row 1: /)
+  assert.equal(stderr.replace(program, '').includes('hunter2'), false)
   for (const rows of [undefined, null, 1, {}, 'ab']) assert.throws(() => bindRows('?', rows), { name: 'TypeError',
     message: /^rows are an array/ })
   const ends = (function * () {
