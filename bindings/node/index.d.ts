@@ -72,7 +72,7 @@ export class Keyword {
  * | an empty list, rows of two lengths | `[]` | BindError |
  * | undefined | `undefined` | TypeError: give null |
  * | an object, a function | `{ password: 1 }` | TypeError: give `Assignments` or `JSON.stringify(..)` of it |
- * | an invalid Date | `new Date(NaN)` | TypeError |
+ * | an invalid Date | `new Date(NaN)` | TypeError, with a `timezone` RangeError |
  */
 export type Value = null | boolean | number | bigint | string | Uint8Array | Date | Double
 

@@ -106,6 +106,8 @@ test('the table of values', () => {
     const call = () => mysqlParams.bind('?', [valueOf(example)])
     if (refused === null) assert.equal(call(), written)
     else assert.throws(call, { name: refused[1] }, example)
+    const other = /, with a `timezone` (\w+Error)$/.exec(written)
+    if (other !== null) assert.throws(() => mysqlParams.bind('?', [valueOf(example)], { timezone: 'Z' }), { name: other[1] })
   }
 })
 
