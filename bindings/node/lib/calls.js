@@ -3,6 +3,7 @@
 
 const { isUint8Array } = require('node:util/types')
 const { ANYWHERE, BIND, BOTH_MODES, BYTES, CHECKED, FRAGMENTS, IN_CLIENT, MODE, native } = require('./native.js')
+const { bytesOf, isGoneArray } = require('./bytes.js')
 const { asked, judgeQuery } = require('./asked.js')
 const { CONSTRUCTS, refusalOf } = require('./errors.js')
 const { giveForm, takeForm, writeParams } = require('./form.js')
@@ -14,6 +15,7 @@ const CALLS = ANYWHERE | BOTH_MODES
 /** The bit of a call that says what its query is. */
 function kindOf(query) {
   if (typeof query === 'string') return 0
+  if (isGoneArray(query)) throw new TypeError('the query is a Uint8Array whose buffer was transferred, or made too short')
   if (isUint8Array(query)) return BYTES
   const kind = query === null ? 'null' : typeof query
   throw new TypeError(`a query is a string or a Uint8Array, and not ${kind === 'object' ? 'an object' : kind}`)
@@ -94,10 +96,11 @@ function bindInBothModes(query, params, options) {
 
 /** Calls with a form that stands already. */
 function withForm(given, use) {
-  if (!isUint8Array(given)) throw new TypeError('a form is a Uint8Array')
+  const bytes = isUint8Array(given) ? bytesOf(given) : undefined
+  if (bytes === undefined) throw new TypeError('a form is a Uint8Array, whose buffer is there')
   const form = takeForm(undefined, true)
   try {
-    form.take(given)
+    form.take(bytes)
     return use(form)
   } finally {
     giveForm(form)

@@ -1,6 +1,7 @@
 'use strict'
 // Refusals of the archive, and of a connection, as errors.
 
+const { bytesOf } = require('./bytes.js')
 const { MODE, BYTES, CHECKED, native } = require('./native.js')
 
 /** C's names of the refusals, by their numbers. */
@@ -66,7 +67,7 @@ Object.defineProperty(SessionError.prototype, 'name', { value: 'SessionError', w
 
 /** The word of a query that a letter outside ASCII makes no name, or undefined. */
 function wordOf(code, position, query) {
-  const text = Buffer.from(query).toString('latin1')
+  const text = Buffer.from(typeof query === 'string' ? query : bytesOf(query)).toString('latin1')
   const word = /[A-Za-z0-9_]*[\x80-\xff][A-Za-z0-9_\x80-\xff]*/y
   let found = null
   if (code === NAMED_FOR_POSITIONAL) {

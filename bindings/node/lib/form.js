@@ -2,6 +2,7 @@
 // The flat form of parameters, as mysql_params.h describes it, written into one buffer that crosses the border once.
 
 const { isDate, isMap, isUint8Array } = require('node:util/types')
+const { bytesOf } = require('./bytes.js')
 const { digitsOf, numberOf, pairsOf, partsOf, wordOf } = require('./fragments.js')
 const dates = require('./dates.js')
 const { otherOf } = require('./objects.js')
@@ -119,7 +120,7 @@ class Form {
     this.hold(bytes)
   }
 
-  /** Takes the bytes of a form that stands already. */
+  /** Takes the bytes of a form that stands already, of a plain view of them. */
   take(bytes) {
     if (bytes.length > this.size) this.grow(bytes.length)
     this.bytes.set(bytes, 0)
@@ -144,7 +145,7 @@ class Form {
     for (let i = 1, rest = length; i < width; i++, rest = Math.floor(rest / 256)) bytes[at + i] = rest % 256
   }
 
-  /** Appends bytes as a length-encoded string. */
+  /** Appends the bytes of a plain view as a length-encoded string. */
   string(bytes) {
     const width = widthOf(bytes.length)
     if (this.len + width + bytes.length > this.size) this.grow(width + bytes.length)
@@ -249,8 +250,10 @@ function writeText(form, value) {
 }
 
 function writeBytes(form, value) {
+  const bytes = bytesOf(value)
+  if (bytes === undefined) return false
   form.type(VAR_STRING, 0)
-  form.string(value)
+  form.string(bytes)
   return true
 }
 
@@ -304,6 +307,11 @@ function writeRare(form, value) {
   }
 }
 
+/** How many items an array has. A Proxy may say what is no count. */
+function countOf(items) {
+  return items.length >>> 0
+}
+
 /** Appends a count in four bytes. */
 function writeCount(form, count) {
   if (form.len + 4 > form.size) form.grow(4)
@@ -313,7 +321,7 @@ function writeCount(form, count) {
 
 function writeList(form, items, place) {
   form.type(LIST, 0)
-  const count = items.length
+  const count = countOf(items)
   writeCount(form, count)
   for (let i = 0; i < count; i++) {
     const item = items[i]
@@ -323,12 +331,12 @@ function writeList(form, items, place) {
 
 function writeRows(form, rows, place) {
   form.type(ROWS, 0)
-  const count = rows.length
+  const count = countOf(rows)
   writeCount(form, count)
   for (let i = 0; i < count; i++) {
     const row = rows[i]
     if (!Array.isArray(row)) throw rowRefusal(place, i)
-    const width = row.length
+    const width = countOf(row)
     writeCount(form, width)
     for (let j = 0; j < width; j++) {
       const item = row[j]
@@ -355,7 +363,7 @@ function isIdentifier(item) {
 
 function writeIdentifiers(form, items, place) {
   form.type(IDENTIFIERS, 0)
-  const count = items.length
+  const count = countOf(items)
   writeCount(form, count)
   for (let i = 0; i < count; i++) {
     const item = items[i]

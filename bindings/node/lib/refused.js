@@ -2,6 +2,7 @@
 // Why a value can't be written, by its name: a TypeError or a RangeError. No message shows a value.
 
 const { isAnyArrayBuffer, isBoxedPrimitive, isDate, isMap, isPromise } = require('node:util/types')
+const { isGoneArray } = require('./bytes.js')
 const { digitsOf, pairsOf, partsOf, wordOf } = require('./fragments.js')
 const dates = require('./dates.js')
 const { otherOf } = require('./objects.js')
@@ -45,6 +46,7 @@ function hasSurrogate(value) {
 /** What an object is called, and what to give instead, also for a place that takes assignments. */
 function ofObject(value, takesAssignments) {
   if (Array.isArray(value)) return 'is an array, which stands in a place by itself: it is no value, and no item of a row'
+  if (isGoneArray(value)) return 'is a Uint8Array whose buffer was transferred, or made too short'
   if (ArrayBuffer.isView(value) || isAnyArrayBuffer(value)) {
     return `is of type ${Object.prototype.toString.call(value).slice(8, -1)}, which has no literal: give a Buffer of its bytes`
   }

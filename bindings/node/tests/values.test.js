@@ -188,6 +188,75 @@ test('bytes', () => {
   }
 })
 
+/** A Uint8Array that says of itself what isn't so. */
+class Lying extends Uint8Array {
+  get length() { return 1000 }
+  get byteLength() { return 1000 }
+  get byteOffset() { return 1 }
+  get buffer() { return new ArrayBuffer(1000) }
+  subarray() { return this }
+  slice() { return this }
+  * [Symbol.iterator]() { yield 39 }
+  static get [Symbol.species]() { return Array }
+}
+
+test('bytes are those that are there', () => {
+  bind('?', ['of an earlier call'.repeat(100)])
+  const lying = Lying.from(Buffer.from("a'b"))
+  const short = Object.defineProperty(Uint8Array.from([97, 98]), 'length', { value: 1 })
+  assert.equal(bind('SELECT ?, ?', [lying, 7]), "SELECT 'a\\'b', 7")
+  assert.equal(bind('SELECT ?, ?', [short, 7]), "SELECT 'ab', 7")
+  assert.equal(bind('VALUES :a, :b', { a: [[lying, 1]], b: 7 }), "VALUES ('a\\'b', 1), 7")
+  assert.equal(bindAnywhere(':a', { a: lying }), "_utf8mb4'a''b'")
+  const query = Lying.from(Buffer.from('SELECT ?, :'))
+  assert.deepEqual(bind(query, [1]), Buffer.from('SELECT 1, :'))
+  assert.deepEqual(new mysqlParams.Template(query).query, Buffer.from('SELECT ?, :'))
+  assert.deepEqual(new mysqlParams.Template(query).bind([1]), Buffer.from('SELECT 1, :'))
+  assert.throws(() => bind(Lying.from(Buffer.from('SELECT :größe')), {}), { kind: 'MISSING', word: 'größe' })
+  assert.equal(mysqlParams.bindForm('?', Lying.from([0, 6, 0])), 'NULL')
+})
+
+test('bytes of memory that is gone', () => {
+  const buffers = [new ArrayBuffer(8), new ArrayBuffer(8)]
+  const gone = [Buffer.from(buffers[0]), new Lying(buffers[1])]
+  structuredClone(null, { transfer: buffers })
+  const resizable = new ArrayBuffer(8, { maxByteLength: 16 })
+  if (resizable.resizable) {
+    gone.push(new Uint8Array(resizable, 4, 4))
+    resizable.resize(2)
+  }
+  const said = 'is a Uint8Array whose buffer was transferred, or made too short'
+  for (const array of gone) {
+    refusedEverywhere(array, TypeError, said)
+    const { names, firstUnportable, Template } = mysqlParams
+    for (const call of [bind, bindAnywhere, names, firstUnportable, (query) => new Template(query)]) {
+      assert.throws(() => call(array), { name: 'TypeError', message: `the query ${said}` })
+    }
+    assert.throws(() => mysqlParams.bindForm('?', array), { name: 'TypeError', message: /^a form is a Uint8Array, whose buffer/ })
+  }
+})
+
+test('memory that another thread makes longer', (t) => {
+  const shared = new SharedArrayBuffer(70000, { maxByteLength: 200000 })
+  if (!shared.growable) {
+    t.skip('no SharedArrayBuffer grows here')
+    return
+  }
+  const view = new Uint8Array(shared).fill(97)
+  // The other thread does it while the form gets more room.
+  const { allocUnsafeSlow } = Buffer
+  Buffer.allocUnsafeSlow = (size) => {
+    shared.grow(200000)
+    return allocUnsafeSlow(size)
+  }
+  try {
+    assert.equal(bind('?, ?', [view, 7]), `'${'a'.repeat(70000)}', 7`)
+  } finally {
+    Buffer.allocUnsafeSlow = allocUnsafeSlow
+  }
+  assert.equal(view.length, 200000)
+})
+
 test('null and booleans', () => {
   assert.equal(bind('?, ?, ?', [null, true, false]), 'NULL, 1, 0')
   assert.equal(bindAnywhere('?', [[null, true]]), 'NULL, 1')
@@ -521,6 +590,27 @@ test('getters that bind', () => {
   const shrinking = [1, 2, 3]
   Object.defineProperty(shrinking, 1, { get() { shrinking.length = 2; return 1 } })
   assert.throws(() => bind('(?)', [shrinking]), /item 2 of the value for place 0 is undefined/)
+})
+
+test('arrays that say what is no count', () => {
+  /** An array that says this of its length. */
+  const lying = (items, length) => new Proxy(items, { get: (target, name) => (name === 'length' ? length : target[name]) })
+  for (const [length, wanted] of [[1.5, 1], [2 ** 32 + 2, 2], ['1', 1], [2.999, 2], [{ valueOf: () => 1 }, 1], [true, 1]]) {
+    const items = ['x', 'y', 'z']
+    const list = items.slice(0, wanted).map((item) => `'${item}'`)
+    assert.equal(bind('(?), ?', [lying(items, length), 7]), `(${list.join(', ')}), 7`)
+    const rows = items.map((item) => lying([item, 1, 2], length))
+    const row = (item) => `(${[`'${item}'`, 1, 2].slice(0, wanted).join(', ')})`
+    assert.equal(bind('VALUES ?, ?', [lying(rows, length), 7]), `VALUES ${items.slice(0, wanted).map(row).join(', ')}, 7`)
+    const names = lying(items.map((item) => new Identifier(item)), length)
+    assert.equal(bind('?, ?', [names, 7]), `${items.slice(0, wanted).map((item) => `\`${item}\``).join(', ')}, 7`)
+  }
+  for (const length of [0, NaN, -0.5, 2 ** 32, null, undefined]) {
+    assert.throws(() => bind('(?)', [lying([1], length)]), { kind: 'FAULT', fault: 'EMPTY' })
+  }
+  for (const length of [1n, Symbol('x'), { valueOf() { throw new TypeError('of the length') } }]) {
+    assert.throws(() => bind('(?)', [lying([1], length)]), TypeError)
+  }
 })
 
 test('options and queries', () => {
