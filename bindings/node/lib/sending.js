@@ -1,6 +1,7 @@
 'use strict'
 // Bound texts sent over a connection of `mysql` or `mysql2`, which is asked for what a text depends on.
 
+const { isNativeError } = require('node:util/types')
 const { BIND, CHECKED, MODE, native } = require('./native.js')
 const { judgeQuery } = require('./asked.js')
 const { BindError, SessionError, refusalOf } = require('./errors.js')
@@ -295,14 +296,57 @@ function send(given, query, params, options, done) {
   })
 }
 
-function query(connection, sql, params, options = {}) {
+// Errors that show already which call they are of: what several calls wait for may fail.
+const shown = new WeakSet()
+
+/**
+ * Has an error show the frames of the caller of a call before its own, which are those of the package and the driver. The call has
+ * to run now, or to go on behind an `await` of a caller.
+ */
+function showCaller(error, call) {
+  if (!isNativeError(error) || shown.has(error) || typeof error.stack !== 'string') return
+  const caller = {}
+  Error.captureStackTrace(caller, call)
+  const frames = String(caller.stack).match(/\n {4}at (?!.*\bnode:internal\/).*/g)
+  const at = error.stack.search(/\n {4}at /)
+  if (frames === null || at < 0) return
+  shown.add(error)
+  const stack = `${error.stack.slice(0, at)}${frames.join('')}\n    --------------------${error.stack.slice(at)}`
+  Reflect.defineProperty(error, 'stack', { value: stack, writable: true, configurable: true })
+}
+
+/** Sends for a call of the package, and resolves to the driver's results and fields. */
+function sent(call, given, sql, params, options) {
   return new Promise((resolve, reject) => {
-    send(connection, sql, params, options, (error, results, fields) => (error ? reject(error) : resolve([results, fields])))
+    const fail = (error) => {
+      showCaller(error, call)
+      reject(error)
+    }
+    try {
+      send(given, sql, params, options, (error, results, fields) => (error ? fail(error) : resolve([results, fields])))
+    } catch (fault) {
+      fail(fault)
+    }
   })
 }
 
-function execute(connection, sql, params, options = {}) {
-  return query(connection, sql, params, options).then(([results]) => results)
+async function query(connection, sql, params, options = {}) {
+  try {
+    return await sent(query, connection, sql, params, options)
+  } catch (error) {
+    showCaller(error, query)
+    throw error
+  }
+}
+
+async function execute(connection, sql, params, options = {}) {
+  try {
+    const [results] = await sent(execute, connection, sql, params, options)
+    return results
+  } catch (error) {
+    showCaller(error, execute)
+    throw error
+  }
 }
 
 function askAgain(connection) {

@@ -353,6 +353,51 @@ test('faults of the driver', async () => {
   }
 })
 
+test('an error shows the line of its call first', async () => {
+  const connection = new Telling()
+  async function ofProgram(call, ...given) {
+    return await call(connection, ...given)
+  }
+  const isShown = (error) => {
+    const [head, first] = error.stack.split('\n    at ')
+    assert.equal(head, `${error.name}: ${error.message}`)
+    assert.match(first, /^(?:async )?ofProgram \(.*sending\.test\.js:\d+:\d+\)$/)
+    assert.equal(error.stack.split('--------------------').length, 2)
+    assert.equal(Object.keys(error).includes('stack'), false)
+    return true
+  }
+  const getter = { get a() { throw new Error('of a getter') } }
+  const long = ['x'.repeat(1 << 20)]
+  for (const call of [query, execute]) {
+    for (const given of [['SELECT :b', { a: 1 }], ['SELECT ?', [{}]], ['SELECT ?', [NaN]], ['SELECT ?', long], ['SELECT [?', [1]],
+      ['SELECT 1', [], { mode: 1 }], ['SELECT 1', [], { timezone: 1 }], [7], ['SELECT :a', getter]]) {
+      await assert.rejects(ofProgram(call, ...given), isShown)
+    }
+    connection.fault = new Error('of the driver')
+    await assert.rejects(ofProgram(call, 'SELECT 1'), isShown)
+    delete connection.fault
+  }
+  await assert.rejects(ofProgram(query, 'SELECT :a', getter), (error) => /at get a /.test(error.stack))
+  // What is found before anything is sent shows it without an await, too.
+  function ofThen(call) {
+    return call(connection, 'SELECT :b', { a: 1 }).then(() => assert.fail())
+  }
+  for (const call of [query, execute]) {
+    await assert.rejects(ofThen(call), (error) => /^    at ofThen \(/.test(error.stack.split('\n')[1]))
+  }
+  // What several calls wait for fails once.
+  connection.fault = new Error('of the question')
+  askAgain(connection)
+  await Promise.all([1, 2, 3].map(() => assert.rejects(ofProgram(query, 'SELECT 1'), isShown)))
+  assert.equal(connection.asked, 2)
+  delete connection.fault
+  // What can't be changed stays, and what is no error.
+  const frozen = Object.freeze(new Error('frozen'))
+  for (const thrown of [frozen, 'a text', undefined, null, { stack: 7 }]) {
+    await assert.rejects(ofProgram(query, 'SELECT :a', { get a() { throw thrown } }), (error) => error === thrown)
+  }
+})
+
 test('commands that the driver tells of', async () => {
   class ChangeUser {}
   class Ping {}
