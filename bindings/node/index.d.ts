@@ -148,10 +148,14 @@ export type Kind =
   /** The text is too long for the connection. */
   | 'PACKET'
 
+/** The code of an error, as `ERR_MYSQL_PARAMS_MISSING`. */
+export type Code = `ERR_MYSQL_PARAMS_${Kind}`
+
 /** A refusal. Numbers of places, parameters and bytes begin at 0. A field that the kind doesn't tell is undefined. */
 export class BindError extends Error {
+  readonly code: Code
   /** The number in mysql_params.h; undefined of SESSION and PACKET. */
-  readonly code?: number
+  readonly number?: number
   readonly kind: Kind
   /** The place in the query; of a form the parameter. */
   readonly place?: number

@@ -1,8 +1,9 @@
 'use strict'
 // Refusals of the archive, and of a connection, as errors.
 
-const { bytesOf } = require('./bytes.js')
 const { MODE, BYTES, CHECKED, native } = require('./native.js')
+const { bytesOf } = require('./bytes.js')
+const { messageOf } = require('./messages.js')
 
 /** C's names of the refusals, by their numbers. */
 const KINDS = Object.freeze([
@@ -29,7 +30,6 @@ const OUT_OF_MEMORY = 1
 const MISSING = 9
 const NAMED_FOR_POSITIONAL = 10
 const NOT_ALONE = 13
-const FLOAT = 14
 
 /** The fields of an error that each number has, in the order of RULES. */
 const FIELDS = {
@@ -52,11 +52,11 @@ const FIELDS = {
 /** The numbers that tell the name of their place, which is looked up in the query. */
 const NAMED = [14, 17, 19]
 
-/** A refusal: `code` is its number in mysql_params.h, `kind` its name there. Numbers of places and bytes begin at 0. */
+/** A refusal: `code` tells its kind, as `kind` does. Numbers of places and bytes begin at 0. */
 class BindError extends Error {
   constructor(message, fields) {
     super(message)
-    Object.assign(this, fields)
+    Object.assign(this, { code: `ERR_MYSQL_PARAMS_${fields.kind}` }, fields)
   }
 }
 Object.defineProperty(BindError.prototype, 'name', { value: 'BindError', writable: true, configurable: true })
@@ -66,14 +66,14 @@ class SessionError extends BindError {}
 Object.defineProperty(SessionError.prototype, 'name', { value: 'SessionError', writable: true, configurable: true })
 
 /** The word of a query that a letter outside ASCII makes no name, or undefined. */
-function wordOf(code, position, query) {
-  const text = Buffer.from(typeof query === 'string' ? query : bytesOf(query)).toString('latin1')
+function wordOf(number, position, query) {
+  const text = query.toString('latin1')
   const word = /[A-Za-z0-9_]*[\x80-\xff][A-Za-z0-9_\x80-\xff]*/y
   let found = null
-  if (code === NAMED_FOR_POSITIONAL) {
+  if (number === NAMED_FOR_POSITIONAL) {
     found = /(?<=:)[\x80-\xff][A-Za-z0-9_\x80-\xff]*/.exec(text)
-  } else if (code === MISSING || (code === NOT_ALONE && text[position] === ':')) {
-    word.lastIndex = code === MISSING ? position : position + 1
+  } else if (number === MISSING || (number === NOT_ALONE && text[position] === ':')) {
+    word.lastIndex = number === MISSING ? position : position + 1
     found = word.exec(text)
   }
   return found === null ? undefined : Buffer.from(found[0], 'latin1').toString()
@@ -85,28 +85,20 @@ function nameAt(place, query, flags) {
   return typeof names[0] === 'number' ? undefined : names[1 + place]
 }
 
-/** What a message says after what C's says: the name of the place, which C has no memory to find, and what to do. */
-function more(code, { placeName }, word) {
-  if (code === NAMED_FOR_POSITIONAL && word === undefined) return ': no `:name` stands outside of strings and comments'
-  if (!NAMED.includes(code)) return ''
-  const where = placeName === undefined ? '' : `: the value of \`:${placeName}\``
-  return code === FLOAT ? `${where}; give null for NaN and infinities, else a text` : where
-}
-
 /** What JavaScript throws for what the addon told of a refusal, of a query that was read by these flags. */
 function refusalOf(told, query, flags) {
-  const [code, , place, position, marks, values, byte, said, name] = told
-  if (code === OUT_OF_MEMORY) return new RangeError('out of memory')
+  const [number, , place, position, marks, values, byte, said, name] = told
+  if (number === OUT_OF_MEMORY) return new RangeError('out of memory')
   const all = { place, position, marks, values, byte, placeName: name }
-  if (NAMED.includes(code)) all.placeName = nameAt(place, query, flags)
+  if (NAMED.includes(number)) all.placeName = nameAt(place, query, flags)
   all.construct = CONSTRUCTS[byte]
   Object.assign(all, { fault: FAULTS[byte], inRow: position, item: values })
-  const fields = { code, kind: KINDS[code] ?? 'UNKNOWN' }
-  for (const field of FIELDS[code] ?? []) fields[field] = all[field]
-  const word = wordOf(code, position, query)
+  const fields = { number, kind: KINDS[number] ?? 'UNKNOWN' }
+  for (const field of FIELDS[number] ?? []) fields[field] = all[field]
+  const bytes = Buffer.from(typeof query === 'string' ? query : bytesOf(query))
+  const word = wordOf(number, position, bytes)
   if (word !== undefined) fields.word = word
-  const message = said.replace('that mysql_params.h lists', 'that KEYWORDS lists')
-  return new BindError(message + more(code, all, word), fields)
+  return new BindError(messageOf(fields, bytes, said), fields)
 }
 
 module.exports = { BindError, CONSTRUCTS, FAULTS, KINDS, SessionError, refusalOf }

@@ -9,7 +9,7 @@ const { otherOf } = require('./objects.js')
 
 /** A name as messages show it: other than printable ASCII, `"` and `\` as `\x` and two digits of each byte. */
 function show(name) {
-  const shown = [...Buffer.from(name, 'utf8')].map((byte) => {
+  const shown = [...Buffer.from(name)].map((byte) => {
     const plain = byte >= 32 && byte <= 126 && byte !== 34 && byte !== 92
     return plain ? String.fromCharCode(byte) : `\\x${byte.toString(16).padStart(2, '0')}`
   })
@@ -133,4 +133,4 @@ function assignedRefusal(form, value, place, parts) {
   return new Kind(`${placeText(place)} sets ${column} to a value that ${said}`)
 }
 
-module.exports = { assignedRefusal, itemRefusal, nameRefusal, rowRefusal, show, valueRefusal }
+module.exports = { assignedRefusal, itemRefusal, nameRefusal, placeText, rowRefusal, show, valueRefusal }

@@ -5,6 +5,7 @@ const assert = require('node:assert/strict')
 const fs = require('node:fs')
 const { test } = require('node:test')
 const { CASES, FIELDS, NUMBERS, bytesOf, cases, formOf, givenOf, isGiven, mysqlParams } = require('./shared_cases.js')
+const { saidFor } = require('./said.js')
 
 const { BindError, Template } = mysqlParams
 const ran = new Set()
@@ -33,13 +34,17 @@ const CONSTRUCTS = []
 function expectRefusal(error, found, prefix = '') {
   assert.ok(error instanceof BindError, String(error))
   assert.equal(error.name, 'BindError')
-  assert.deepEqual([error.kind, error.code], [found.refusal, NUMBERS[found.refusal]], found.lines.join('\n'))
+  const code = `ERR_MYSQL_PARAMS_${found.refusal}`
+  assert.deepEqual([error.code, error.kind, error.number], [code, found.refusal, NUMBERS[found.refusal]], found.lines.join('\n'))
   for (const [field, told] of Object.entries(FIELDS[found.refusal] ?? {})) {
     assert.equal(error[field], wanted(field, found.fields[told], found.refusal), field)
   }
   const { word } = found.fields
   assert.equal(error.word, word === undefined ? undefined : bytesOf(word).toString())
-  if (found.message !== null) assert.equal(error.message, prefix + found.message)
+  if (found.message === null) return
+  const said = saidFor(found.message)
+  if (typeof said === 'string') assert.equal(error.message, prefix + said)
+  else assert.match(error.message, said)
 }
 
 /** A call gives the text or the refusal that a case wants: of a query that is a string a string, of bytes a Buffer. */

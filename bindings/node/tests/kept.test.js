@@ -75,15 +75,15 @@ test('only own properties are values', () => {
   const query = unseen('SELECT :a, :b')
   for (let i = 0; i < 4; i++) {
     assert.equal(bind(query, { a: 1, b: 2 }), query.replace(':a', '1').replace(':b', '2'))
-    assert.throws(() => bind(query, Object.create({ a: 1, b: 2 })), { code: 9 })
-    assert.throws(() => bind(query, Object.assign(Object.create({ b: 2 }), { a: 1 })), { code: 9, placeName: 'b' })
+    assert.throws(() => bind(query, Object.create({ a: 1, b: 2 })), { number: 9 })
+    assert.throws(() => bind(query, Object.assign(Object.create({ b: 2 }), { a: 1 })), { number: 9, placeName: 'b' })
   }
   // eslint-disable-next-line no-extend-native
   Object.prototype.b = 2
   try {
     for (let i = 0; i < 4; i++) {
-      assert.throws(() => bind(query, { a: 1 }), { code: 9, placeName: 'b' })
-      assert.throws(() => bind(query, { a: 1, c: 3 }), { code: 9, placeName: 'b' })
+      assert.throws(() => bind(query, { a: 1 }), { number: 9, placeName: 'b' })
+      assert.throws(() => bind(query, { a: 1, c: 3 }), { number: 9, placeName: 'b' })
       assert.equal(bind(query, { a: 1, b: 3 }), query.replace(':a', '1').replace(':b', '3'))
     }
   } finally {

@@ -126,7 +126,7 @@ test(`answers, up to ${CALLS} times each`, { skip }, async () => {
 
 test(`refusals, up to ${CALLS} times each`, { skip }, async () => {
   for (const [name, call] of Object.entries(REFUSALS)) {
-    assert.throws(call, (error) => (/^\d/.test(name) ? error.code === Number(name) : error instanceof Error))
+    assert.throws(call, (error) => (/^\d/.test(name) ? error.number === Number(name) : error instanceof Error))
     await judge(name, call, CALLS)
   }
 })

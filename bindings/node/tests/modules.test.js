@@ -27,13 +27,14 @@ test('the types list what there is', () => {
 test('what the errors are', () => {
   const { BindError, SessionError } = mysqlParams
   for (const Kind of [BindError, SessionError]) {
-    const error = new Kind('text', { code: 1 })
+    const error = new Kind('text', { kind: 'MISSING', number: 9 })
     assert.ok(error instanceof Error && error instanceof BindError)
-    assert.deepEqual([error.name, error.message, String(error), error.code], [Kind.name, 'text', `${Kind.name}: text`, 1])
+    assert.deepEqual([error.name, error.message, String(error)], [Kind.name, 'text', `${Kind.name}: text`])
+    assert.deepEqual([error.code, error.kind, error.number], ['ERR_MYSQL_PARAMS_MISSING', 'MISSING', 9])
     assert.ok(!Object.keys(error).includes('name'))
   }
   assert.throws(() => mysqlParams.bind(':a', {}), (error) => /modules\.test\.js/.test(error.stack) &&
-    error.stack.startsWith('BindError: Missing named'))
+    error.stack.startsWith('BindError: `:a` is given no value'))
 })
 
 test('workers at once', async () => {

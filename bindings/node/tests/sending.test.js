@@ -273,7 +273,7 @@ test('connections and pools with promises', async () => {
   assert.deepEqual(core.sent, ["SELECT ':c ?', ':b ?'"])
   const pool = { query() {}, getConnection: (done) => setImmediate(() => done(null, core)) }
   for (const given of [pool, { pool, query: async () => assert.fail() }]) await query(given, 'SELECT ?', [1])
-  await assert.rejects(query(pool, 'SELECT :a', {}), { code: 9 })
+  await assert.rejects(query(pool, 'SELECT :a', {}), { number: 9 })
   await assert.rejects(query(pool, 'SELECT ?', [{}]), { name: 'TypeError' })
   assert.deepEqual([core.asked, core.released], [4, 3])
   const empty = { query() {}, getConnection: (done) => done(new Error('no connection')) }

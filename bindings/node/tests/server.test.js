@@ -228,7 +228,7 @@ test('a pool, whose connections are made anew', { skip }, async () => {
   const [[row]] = await query(pool, "SELECT ? AS a, '1' AS b", ["\\', 7 #"])
   assert.deepEqual({ ...row }, { a: "\\', 7 #", b: '1' })
   // A refusal gives the connection back too.
-  for (let i = 0; i < 5; i++) await assert.rejects(query(pool, 'SELECT :a', {}), { code: 9 })
+  for (let i = 0; i < 5; i++) await assert.rejects(query(pool, 'SELECT :a', {}), { number: 9 })
   await promisify(pool.end).call(pool)
 })
 
@@ -263,9 +263,9 @@ test('refusals send nothing', { skip }, async () => {
   const { max_allowed_packet: packet } = (await plain(connection, 'SELECT @@max_allowed_packet AS max_allowed_packet'))[0]
   await query(connection, 'SELECT 1')
   const before = await asked(connection)
-  await assert.rejects(query(connection, 'SELECT /*! :a */ 1', { a: 1 }), { code: 16, construct: 'EXECUTABLE_COMMENT',
+  await assert.rejects(query(connection, 'SELECT /*! :a */ 1', { a: 1 }), { number: 16, construct: 'EXECUTABLE_COMMENT',
     position: 7 })
-  await assert.rejects(query(connection, 'SELECT :a', {}), { code: 9, placeName: 'a' })
+  await assert.rejects(query(connection, 'SELECT :a', {}), { number: 9, placeName: 'a' })
   await assert.rejects(query(connection, 'SELECT :a', { a: undefined }), { name: 'TypeError' })
   await assert.rejects(query(connection, 'SELECT :a', { a: { b: 1 } }), { name: 'TypeError' })
   await assert.rejects(query(connection, 'SELECT \ud800'), { name: 'TypeError' })

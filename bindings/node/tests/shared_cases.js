@@ -148,8 +148,8 @@ class Case {
       case 'text': this.texts.push(bytesOf(rest)); break
       case 'renamed': this.renamed = bytesOf(rest); break
       case 'name': this.names.push(rest); break
-      case 'message': this.message = rest.replace('give None', 'give null'); break
-      case 'message_in_c': this.message ??= rest.replace('mysql_params.h lists', 'KEYWORDS lists'); break
+      case 'message': this.message = rest; break
+      case 'message_in_c': this.message ??= rest; break
       case 'no_backslash_escape': this.noBackslashEscape = true; break
       case 'portable': this.isPortable = true; break
       case 'refused':

@@ -2,7 +2,7 @@
 import mysqlParams = require('mysql-params')
 import { Assignments, BindError, Decimal, Double, Identifier, Keyword, SessionError, Template, bind, bindAnywhere,
   bindInBothModes } from 'mysql-params'
-import { askAgain, bindRows, execute, firstUnportable, names, query } from 'mysql-params'
+import { type Code, askAgain, bindRows, execute, firstUnportable, names, query } from 'mysql-params'
 
 const text: string = bind('SELECT ?', [1])
 const bytes: Buffer = bind(Buffer.from('SELECT ?'), [1])
@@ -40,8 +40,12 @@ try {
 } catch (error) {
   if (error instanceof SessionError) error.variable.trim()
   else if (error instanceof BindError && error.kind === 'MISSING') error.placeName?.trim()
+  else if (error instanceof BindError && error.code === 'ERR_MYSQL_PARAMS_FAULT') error.number?.toFixed()
 }
 
+declare const code: Code
+// @ts-expect-error
+if (code === 'MISSING') void code
 // @ts-expect-error
 bind('?', [undefined])
 // @ts-expect-error

@@ -79,8 +79,8 @@ test('numbers that none can say', () => {
       for (const call of [bind, bindAnywhere]) {
         assert.throws(() => call(':a', { a: given }), (error) => {
           assert.ok(error instanceof BindError)
-          assert.deepEqual([error.code, error.kind, error.place, error.placeName], [14, 'FLOAT', 0, 'a'])
-          return error.message === 'Float at place 0: the value of `:a`; give null for NaN and infinities, else a text'
+          assert.deepEqual([error.number, error.kind, error.place, error.placeName], [14, 'FLOAT', 0, 'a'])
+          return error.message === "The value of `:a` is a float that isn't written: give null for NaN and infinities, else a text"
         })
       }
     }
@@ -112,7 +112,7 @@ test('exact numbers', () => {
   assert.equal(literal(new Decimal(`${'1'.repeat(35)}.${'2'.repeat(30)}`)), `${'1'.repeat(35)}.${'2'.repeat(30)}`)
   refusedEverywhere(new Decimal('1'.repeat(66)), RangeError, 'has more than 65 digits, of which servers keep no more')
   for (const digits of ['', 'x', '1; DROP TABLE t', '0x1F', 'NaN', '1 2', '--1']) {
-    assert.throws(() => bind(':a', { a: new Decimal(digits) }), { name: 'BindError', code: 17, fault: 'NUMBER',
+    assert.throws(() => bind(':a', { a: new Decimal(digits) }), { name: 'BindError', number: 17, fault: 'NUMBER',
       placeName: 'a' })
   }
   for (const other of [1, 1.5, null, undefined, {}]) assert.throws(() => new Decimal(other), TypeError)
@@ -317,9 +317,9 @@ test('lists and rows', () => {
   assert.equal(bind('VALUES ?', [[[1, 'a'], [2, 'b']]]), "VALUES (1, 'a'), (2, 'b')")
   assert.equal(bindAnywhere('VALUES :rows', { rows: [[1, 'a']] }), "VALUES (1, _utf8mb4'a')")
   const fault = (value, name, inRow = 0) => {
-    assert.throws(() => bind(':a', { a: value }), { name: 'BindError', code: 17, kind: 'FAULT', fault: name, inRow,
+    assert.throws(() => bind(':a', { a: value }), { name: 'BindError', number: 17, kind: 'FAULT', fault: name, inRow,
       placeName: 'a' })
-    assert.throws(() => bindAnywhere('?', [value]), { name: 'BindError', code: 17, fault: name, inRow, placeName: undefined })
+    assert.throws(() => bindAnywhere('?', [value]), { name: 'BindError', number: 17, fault: name, inRow, placeName: undefined })
   }
   fault([], 'EMPTY')
   fault([[]], 'EMPTY_ROW')
@@ -363,7 +363,7 @@ test('identifiers and keywords', () => {
     message: 'the word is none of the keywords "ASC", "DESC"' })
   assert.throws(() => new Keyword('ASC', 'ASC'), TypeError)
   assert.throws(() => new Keyword(['ASC'], ['ASC']), TypeError)
-  assert.throws(() => bind('?', [new Keyword('desc', ['desc'])]), { code: 17, fault: 'KEYWORD' })
+  assert.throws(() => bind('?', [new Keyword('desc', ['desc'])]), { number: 17, fault: 'KEYWORD' })
   refusedItem(new Keyword('ASC', ['ASC']), TypeError, 'is a Keyword, which is no value: write a place for it')
   // What only looks like one is an object.
   for (const like of [Object.create(Identifier.prototype), Object.create(Decimal.prototype),
@@ -396,7 +396,7 @@ test('lists of identifiers', () => {
     [[a, new Identifier('t', '\ud800')],
       'item 1 of the value of `:a` is an Identifier with a lone surrogate, which has no UTF-8']
   ]) assert.throws(() => bind(':a', { a: value }), { name: 'TypeError', message: said })
-  assert.throws(() => bind('?', [[b, new Identifier('c\0')]]), { code: 17, fault: 'ZERO_BYTE', item: 2 })
+  assert.throws(() => bind('?', [[b, new Identifier('c\0')]]), { number: 17, fault: 'ZERO_BYTE', item: 2 })
 })
 
 test('assignments', () => {
@@ -460,15 +460,15 @@ test('assignments that are refused', () => {
     message: /^the value for place 0 sets `a` to a value that is a whole number beyond 2\^53/ })
   assert.throws(() => bind('?', [new Assignments({ a: 10n ** 65n })]), { name: 'RangeError',
     message: 'the value for place 0 sets `a` to a value that has more than 65 digits, of which servers keep no more' })
-  assert.throws(() => bind('?', [new Assignments({ a: NaN })]), { code: 14, kind: 'FLOAT', place: 0 })
+  assert.throws(() => bind('?', [new Assignments({ a: NaN })]), { number: 14, kind: 'FLOAT', place: 0 })
   assert.throws(() => bind('?', [new Assignments({ '\ud800': 1 })]), { name: 'TypeError',
     message: 'the value for place 0 is of type Assignments with a lone surrogate, which has no UTF-8' })
   refusedItem(new Assignments({ a: 1 }), TypeError, 'is of type Assignments, which is no value: write a place for it')
   for (const none of [{}, [], new Map()]) {
-    assert.throws(() => bind(':set', { set: new Assignments(none) }), { code: 17, fault: 'EMPTY',
-      message: "Fragment at place 0 can't be written: it is empty: the value of `:set`" })
+    assert.throws(() => bind(':set', { set: new Assignments(none) }), { number: 17, fault: 'EMPTY',
+      message: 'The list for `:set` is empty' })
   }
-  assert.throws(() => bind('?', [new Assignments([[new Identifier('t', 'a'), 1], ['b\0', 2]])]), { code: 17,
+  assert.throws(() => bind('?', [new Assignments([[new Identifier('t', 'a'), 1], ['b\0', 2]])]), { number: 17,
     fault: 'ZERO_BYTE', item: 2 })
   const made = 'Assignments are made of an object of columns, or of an array or a Map of pairs: a column and a value'
   for (const [assigned, said] of [[5, ', and not of type number'], ['ab', ', and not of type string'],
@@ -542,7 +542,7 @@ test('both modes take only values', () => {
     assert.throws(() => bindInBothModes(':a', { a: value }), (error) => error.constructor === Kind &&
       error.message === `the value of \`:a\` ${said}`)
   }
-  assert.throws(() => bindInBothModes(':a', { a: 0.5 }), { code: 14, placeName: 'a' })
+  assert.throws(() => bindInBothModes(':a', { a: 0.5 }), { number: 14, placeName: 'a' })
 })
 
 test('parameters', () => {
@@ -557,9 +557,9 @@ test('parameters', () => {
   assert.equal(bind(':a', vm.runInNewContext('({ a: 1 })')), '1')
   assert.equal(bind('?', vm.runInNewContext('[1]')), '1')
   // Only own properties are parameters.
-  assert.throws(() => bind(':a', Object.create({ a: 1 })), { code: 9, placeName: 'a' })
-  assert.throws(() => bind(':toString', {}), { code: 9 })
-  assert.throws(() => bind(':__proto__', { ['a']: 1, __proto__: null }), { code: 9, placeName: '__proto__' })
+  assert.throws(() => bind(':a', Object.create({ a: 1 })), { number: 9, placeName: 'a' })
+  assert.throws(() => bind(':toString', {}), { number: 9 })
+  assert.throws(() => bind(':__proto__', { ['a']: 1, __proto__: null }), { number: 9, placeName: '__proto__' })
   assert.equal(bind(':__proto__, :constructor', JSON.parse('{"__proto__": 1, "constructor": 2}')), '1, 2')
   const wanted = /^parameters are an array, an object of names, or a Map, and not /
   for (const params of ['x', 1, 1n, true, Symbol('x'), () => 1, Buffer.from('x'), new Date(), new Set(), /x/,
@@ -669,8 +669,8 @@ test('rows of all kinds', () => {
   const many = bindRows(':a', generated())
   assert.deepEqual(many, Array.from({ length: 3000 }, (_, i) => (i % 500 === 499 ? '0.5e0' : String(i))))
   // The row that is refused, with the texts before it, also within a batch and before a value that is refused.
-  for (const [bad, check] of [[[1, 2], { code: 12 }], [[[]], { code: 17 }], [[undefined], { name: 'TypeError' }], [[NaN],
-    { code: 14 }]]) {
+  for (const [bad, check] of [[[1, 2], { number: 12 }], [[[]], { number: 17 }], [[undefined], { name: 'TypeError' }], [[NaN],
+    { number: 14 }]]) {
     for (const row of [0, 1, 2, 700]) {
       const given = Array.from({ length: row }, (_, i) => [i]).concat([bad, [undefined]])
       assert.throws(() => bindRows('?', given), (error) => {
@@ -718,7 +718,7 @@ test('templates', () => {
   ofBytes.query.fill(120)
   assert.deepEqual(ofBytes.bind([1, 2]), Buffer.from('1, 2'))
   assert.equal(new mysqlParams.Template('a IN (?)').bind([[1, 2]]), 'a IN (1, 2)')
-  assert.throws(() => new mysqlParams.Template(':a').bind({}), { code: 9, placeName: 'a' })
+  assert.throws(() => new mysqlParams.Template(':a').bind({}), { number: 9, placeName: 'a' })
   assert.throws(() => new mysqlParams.Template('?', { timezone: 'Z' }), TypeError)
   assert.throws(() => mysqlParams.Template.prototype.bind.call({}, [1]), TypeError)
   assert.throws(() => Object.create(template).query, TypeError)
