@@ -232,6 +232,47 @@ test('a pool, whose connections are made anew', { skip }, async () => {
   await promisify(pool.end).call(pool)
 })
 
+test('a connection of a pool is asked once, and again after askAgain of the pool', { skip }, async () => {
+  const pool = mysql.createPool({ socketPath: running.socket, user: 'root', charset: 'utf8mb4', connectionLimit: 1 })
+  await query(pool, 'SELECT 1')
+  const before = await asked(pool)
+  for (let i = 0; i < 5; i++) await query(pool, 'SELECT ?', [i])
+  assert.equal(await asked(pool) - before, 6)
+  askAgain(pool)
+  await query(pool, 'SELECT 1')
+  assert.equal(await asked(pool) - before, 9)
+  await promisify(pool.end).call(pool)
+})
+
+test('a bundle in which the classes of the driver have other names', { skip }, async () => {
+  const connection = connect()
+  const { constructor: Query } = connection.query('SELECT 1')
+  const name = Object.getOwnPropertyDescriptor(Query, 'name')
+  Object.defineProperty(Query, 'name', { value: 'a', configurable: true })
+  try {
+    await query(connection, 'SELECT ?', ['\\'])
+    await plain(connection, "SET sql_mode = 'NO_BACKSLASH_ESCAPES'")
+    const [[row]] = await query(connection, "SELECT ? AS a, '1' AS b", ["\\', 7 #"])
+    assert.deepEqual({ ...row }, { a: "\\', 7 #", b: '1' })
+  } finally {
+    Object.defineProperty(Query, 'name', name)
+  }
+})
+
+test('what a routine or a trigger sets is set back', { skip }, async () => {
+  const connection = connect({ database: 'd' })
+  const set = "BEGIN SET sql_mode = 'NO_BACKSLASH_ESCAPES'; SET character_set_client = gbk;"
+  await plain(connection, `CREATE FUNCTION changes() RETURNS INT ${set} RETURN @@sql_mode = 'NO_BACKSLASH_ESCAPES'; END`)
+  await plain(connection, 'CREATE TABLE changed (a INT)')
+  await plain(connection, `CREATE TRIGGER changes_too BEFORE INSERT ON changed FOR EACH ROW ${set} END`)
+  const [[found]] = await query(connection, 'SELECT changes() AS is_changed')
+  assert.equal(found.is_changed, 1)
+  await query(connection, 'INSERT INTO changed VALUES (?)', [1])
+  await query(connection, 'SHOW TABLES WHERE changes()')
+  const [{ mode, charset }] = await plain(connection, 'SELECT @@sql_mode AS mode, @@character_set_client AS charset')
+  assert.deepEqual([mode.includes('NO_BACKSLASH_ESCAPES'), charset], [false, 'utf8mb4'])
+})
+
 test('another character set is refused', { skip }, async () => {
   for (const charset of ['latin1', 'gbk', 'utf8', undefined]) {
     const connection = connect(charset === undefined ? { charset: undefined } : { charset })
