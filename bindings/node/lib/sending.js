@@ -50,7 +50,8 @@ function judgeEncoding(connection) {
 
 /** Whether a command of a driver leaves the session as it is. A bundle may have other names of classes, and then it may not. */
 function leavesSession(command) {
-  return typeof command?.sql === 'string' ? LEAVES_SESSION.test(command.sql) : command?.constructor?.name === 'Ping'
+  const sql = command?.sql
+  return typeof sql === 'string' ? LEAVES_SESSION.test(sql) : command?.constructor?.name === 'Ping'
 }
 
 /**
@@ -112,11 +113,19 @@ class Session {
     const { connection, giving } = this
     const { config } = connection
     // What the driver looks for is here, so that it finds nothing on Object.prototype.
-    const options = { sql: text, values: [], timeout: undefined, infileStreamFactory: undefined }
-    for (const name of ['typeCast', 'nestTables', 'rowsAsArray']) options[name] = ownOf(config, name)
+    const options = {
+      sql: text,
+      values: [],
+      timeout: undefined,
+      infileStreamFactory: undefined,
+      typeCast: ownOf(config, 'typeCast'),
+      nestTables: ownOf(config, 'nestTables'),
+      rowsAsArray: ownOf(config, 'rowsAsArray'),
+      ...more
+    }
     this.giving = text
     try {
-      connection.query({ ...options, ...more }, done)
+      connection.query(options, done)
     } finally {
       this.giving = giving
     }
@@ -239,7 +248,7 @@ function textFor(connection, told, query, written) {
   if (found !== 0) throw refusalOf(found, query, flags)
   const text = calls.boundWritten(flags, query, written)
   const length = Buffer.byteLength(text)
-  if (!isAscii(text)) judgeEncoding(connection)
+  if (length !== text.length) judgeEncoding(connection) // The text isn't ASCII.
   if (length > told.most) {
     const most = `the connection's max_allowed_packet lets ${told.most} through`
     throw new BindError(`The text has ${length} bytes, and ${most}`, { kind: 'PACKET', length, most: told.most })
