@@ -3,27 +3,49 @@
 
 const { isUint8Array } = require('node:util/types')
 
-const ofTypedArrays = Object.getPrototypeOf(Uint8Array.prototype)
-const { at } = ofTypedArrays
-const getterOf = (name) => Object.getOwnPropertyDescriptor(ofTypedArrays, name).get
-const lengthOf = getterOf('length')
-const offsetOf = getterOf('byteOffset')
-const bufferOf = getterOf('buffer')
+/** A getter or a method of a prototype, as a function of the object: an object can't hide it. */
+function ofPrototype(prototype, name) {
+  const { get, value } = Object.getOwnPropertyDescriptor(prototype, name)
+  return Function.prototype.call.bind(get ?? value)
+}
+
+const ofArrays = Object.getPrototypeOf(Uint8Array.prototype)
+const itemOf = ofPrototype(ofArrays, 'at')
+const lengthOf = ofPrototype(ofArrays, 'length')
+const offsetOf = ofPrototype(ofArrays, 'byteOffset')
+const bufferOf = ofPrototype(ofArrays, 'buffer')
+const lengthOfBuffer = ofPrototype(ArrayBuffer.prototype, 'byteLength')
 
 /** Whether the buffer of a Uint8Array was transferred, or made shorter than to where the array begins. */
 function isGone(array) {
+  if (lengthOf(array) > 0) return false
   try {
-    at.call(array, 0)
+    itemOf(array, 0)
     return false
   } catch {
     return true
   }
 }
 
-/** A plain view of the bytes of a Uint8Array, whose length is read once and stays; undefined if its buffer is gone. */
-function bytesOf(array) {
-  const length = lengthOf.call(array)
-  return length === 0 && isGone(array) ? undefined : new Uint8Array(bufferOf.call(array), offsetOf.call(array), length)
+/** Whether another thread may make the buffer of a Uint8Array longer. */
+function isShared(array) {
+  try {
+    lengthOfBuffer(bufferOf(array))
+    return false
+  } catch {
+    return true
+  }
+}
+
+/** A plain view of the bytes of a Uint8Array. */
+function viewOf(array) {
+  const length = lengthOf(array)
+  return new Uint8Array(bufferOf(array), offsetOf(array), length)
+}
+
+/** A Uint8Array of the same bytes whose length stays during a call: itself, unless its buffer is shared. */
+function steadyOf(array) {
+  return isShared(array) ? viewOf(array) : array
 }
 
 /** Whether a value is a Uint8Array whose buffer is gone. */
@@ -31,4 +53,4 @@ function isGoneArray(value) {
   return isUint8Array(value) && isGone(value)
 }
 
-module.exports = { bytesOf, isGoneArray }
+module.exports = { isGone, isGoneArray, lengthOf, steadyOf, viewOf }

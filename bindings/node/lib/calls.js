@@ -3,7 +3,7 @@
 
 const { isUint8Array } = require('node:util/types')
 const { ANYWHERE, BIND, BOTH_MODES, BYTES, CHECKED, FRAGMENTS, IN_CLIENT, MODE, native } = require('./native.js')
-const { bytesOf, isGoneArray } = require('./bytes.js')
+const { isGoneArray } = require('./bytes.js')
 const { asked, judgeQuery } = require('./asked.js')
 const { CONSTRUCTS, refusalOf } = require('./errors.js')
 const { giveForm, takeForm, writeParams } = require('./form.js')
@@ -96,11 +96,10 @@ function bindInBothModes(query, params, options) {
 
 /** Calls with a form that stands already. */
 function withForm(given, use) {
-  const bytes = isUint8Array(given) ? bytesOf(given) : undefined
-  if (bytes === undefined) throw new TypeError('a form is a Uint8Array, whose buffer is there')
+  if (!isUint8Array(given) || isGoneArray(given)) throw new TypeError('a form is a Uint8Array, whose buffer is there')
   const form = takeForm(undefined, true)
   try {
-    form.take(bytes)
+    form.take(given)
     return use(form)
   } finally {
     giveForm(form)

@@ -2,7 +2,7 @@
 // Refusals of the archive, and of a connection, as errors.
 
 const { MODE, BYTES, CHECKED, native } = require('./native.js')
-const { bytesOf } = require('./bytes.js')
+const { viewOf } = require('./bytes.js')
 const { messageOf } = require('./messages.js')
 
 /** C's names of the refusals, by their numbers. */
@@ -95,7 +95,7 @@ function refusalOf(told, query, flags) {
   Object.assign(all, { fault: FAULTS[byte], inRow: position, item: values })
   const fields = { number, kind: KINDS[number] ?? 'UNKNOWN' }
   for (const field of FIELDS[number] ?? []) fields[field] = all[field]
-  const bytes = Buffer.from(typeof query === 'string' ? query : bytesOf(query))
+  const bytes = Buffer.from(typeof query === 'string' ? query : viewOf(query))
   const word = wordOf(number, position, bytes)
   if (word !== undefined) fields.word = word
   return new BindError(messageOf(fields, bytes, said), fields)

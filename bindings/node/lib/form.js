@@ -2,7 +2,7 @@
 // The flat form of parameters, as mysql_params.h describes it, written into one buffer that crosses the border once.
 
 const { isDate, isMap, isUint8Array } = require('node:util/types')
-const { bytesOf } = require('./bytes.js')
+const { isGone, lengthOf, steadyOf } = require('./bytes.js')
 const { digitsOf, numberOf, pairsOf, partsOf, wordOf } = require('./fragments.js')
 const dates = require('./dates.js')
 const { otherOf } = require('./objects.js')
@@ -120,11 +120,13 @@ class Form {
     this.hold(bytes)
   }
 
-  /** Takes the bytes of a form that stands already, of a plain view of them. */
-  take(bytes) {
-    if (bytes.length > this.size) this.grow(bytes.length)
+  /** Takes the bytes of a form that stands already. */
+  take(given) {
+    const bytes = steadyOf(given)
+    const count = lengthOf(bytes)
+    if (count > this.size) this.grow(count)
     this.bytes.set(bytes, 0)
-    this.len = bytes.length
+    this.len = count
   }
 
   /** Appends a type and flags, for which there is room. */
@@ -145,13 +147,15 @@ class Form {
     for (let i = 1, rest = length; i < width; i++, rest = Math.floor(rest / 256)) bytes[at + i] = rest % 256
   }
 
-  /** Appends the bytes of a plain view as a length-encoded string. */
-  string(bytes) {
-    const width = widthOf(bytes.length)
-    if (this.len + width + bytes.length > this.size) this.grow(width + bytes.length)
-    this.length(this.len, bytes.length, width)
+  /** Appends the bytes of a Uint8Array as a length-encoded string. */
+  string(given) {
+    const bytes = steadyOf(given)
+    const count = lengthOf(bytes)
+    const width = widthOf(count)
+    if (this.len + width + count > this.size) this.grow(width + count)
+    this.length(this.len, count, width)
     this.bytes.set(bytes, this.len + width)
-    this.len += width + bytes.length
+    this.len += width + count
   }
 
   /** Appends the UTF-8 of a text as a length-encoded string. False for one with a lone surrogate. */
@@ -250,10 +254,9 @@ function writeText(form, value) {
 }
 
 function writeBytes(form, value) {
-  const bytes = bytesOf(value)
-  if (bytes === undefined) return false
+  if (isGone(value)) return false
   form.type(VAR_STRING, 0)
-  form.string(bytes)
+  form.string(value)
   return true
 }
 

@@ -1,7 +1,7 @@
 'use strict'
 // A query whose places are found once.
 
-const { bytesOf } = require('./bytes.js')
+const { viewOf } = require('./bytes.js')
 const { BIND, BYTES, MODE } = require('./native.js')
 const { Kept } = require('./kept.js')
 const { boundRows } = require('./rows.js')
@@ -15,7 +15,7 @@ class Template {
 
   constructor(query, options = {}) {
     this.#flags = BIND | calls.kindOf(query) | calls.modeOf(calls.optionsOf(options, calls.OF_QUERY))
-    this.#kept = new Kept(typeof query === 'string' ? query : Buffer.from(bytesOf(query)), this.#flags)
+    this.#kept = new Kept(typeof query === 'string' ? query : Buffer.from(viewOf(query)), this.#flags)
   }
 
   /** The query; of bytes a copy. */
