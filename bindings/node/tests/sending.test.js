@@ -258,6 +258,40 @@ test('commands of the program behind a question', async () => {
   assert.deepEqual(connection.sent.at(-1), PLAIN)
 })
 
+test('no text is read in another mode, in whatever order commands come', async () => {
+  let seed = 1
+  const below = (count) => {
+    seed = (Math.imul(seed, 1103515245) + 12345) >>> 0
+    return (seed >>> 16) % count
+  }
+  for (let round = 0; round < 300; round++) {
+    const connection = round % 2 ? new Telling() : new Connection()
+    const { run } = connection
+    let texts = 0
+    connection.run = function (sql) {
+      if (sql === PLAIN || sql === ESCAPED) {
+        texts++
+        assert.equal(sql, this.session.m === '' ? ESCAPED : PLAIN, `round ${round}`)
+      }
+      return run.call(this, sql)
+    }
+    const sent = []
+    let wanted = 0
+    for (let i = 0; i < 30; i++) {
+      const of = below(8)
+      if (of < 3) wanted++
+      if (of < 3) sent.push(query(connection, 'SELECT ?', ['\\'], { alwaysAsk: of === 0 }))
+      else if (of === 3) sent.push(query(connection, 'SET sql_mode = ?', [below(2) ? '' : 'NO_BACKSLASH_ESCAPES']))
+      else if (of === 4) sent.push(connection.plain(below(2) ? WITH : WITHOUT))
+      else if (of === 5) sent.push(connection.plain('SELECT 1'))
+      else if (of === 6) await new Promise((resolve) => setImmediate(resolve))
+      else await sent[below(sent.length + 1)]
+    }
+    await Promise.all(sent)
+    assert.equal(texts, wanted)
+  }
+})
+
 test('a driver that shows neither its commands nor their queue', async () => {
   for (const queue of [undefined, null, {}, { length: 1 }, { length: 1, toArray: () => 'x' }]) {
     const connection = Object.assign(new Connection(), { _commands: queue })
