@@ -253,9 +253,11 @@ export interface SendOptions extends ZoneOptions {
 /**
  * Binds a query in the mode of a connection, and sends the text. It resolves to the driver's results and fields.
  *
- * A connection is asked for its mode before its first text, and again after the driver has connected anew. A connection of `mysql`
- * is asked again after each command that may change the mode, as a `SET`, a `CALL` or `changeUser`; one of `mysql2`, which tells of
- * no command, before each text. An unknown option is a TypeError.
+ * A connection is asked for its mode before its first text, and again after the driver has connected anew. One of `mysql` is asked
+ * again after each command that may change the mode, such as `SET`, `CALL` or `changeUser`; one of `mysql2`, which tells of no
+ * command, before each text. An unknown option is a TypeError.
+ *
+ * An error shows the line of the call first. Where it comes after something was sent, this needs an `await` of the call.
  */
 export function query(
   connection: Sender,

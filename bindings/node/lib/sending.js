@@ -131,8 +131,8 @@ function send(given, query, params, options, done) {
 const shown = new WeakSet()
 
 /**
- * Has an error show the frames of the caller of a call before its own, which are those of the package and the driver. The call has
- * to run now, or to go on behind an `await` of a caller.
+ * Has an error show the frames of a call's caller before its own, which are those of the package and the driver. The call runs now,
+ * or goes on after an `await`: then the caller has to await it too.
  */
 function showCaller(error, call) {
   if (!isNativeError(error) || shown.has(error) || typeof error.stack !== 'string') return
