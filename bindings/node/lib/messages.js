@@ -35,14 +35,14 @@ function valueText({ place, placeName }) {
   return placeText(placeName ?? place).replace('the', 'The')
 }
 
-/** What it calls a list for a place. */
-function listText({ place, placeName }) {
-  return `The list for ${placeName === undefined ? `place ${place}` : `\`:${show(placeName)}\``}`
+/** What it calls a place. */
+function placeOf({ place, placeName }) {
+  return placeName === undefined ? `place ${place}` : `\`:${show(placeName)}\``
 }
 
 /** What is wrong with a list, rows, a name or a keyword, by the kinds of faults. */
 const OF_FAULTS = {
-  EMPTY: (fields) => `${listText(fields)} is empty`,
+  EMPTY: (fields) => `The list for ${placeOf(fields)} is empty`,
   EMPTY_ROW: (fields) => `${valueText(fields)} has an empty row ${fields.inRow}`,
   ROW_LENGTH: (fields) => `${valueText(fields)} has a row ${fields.inRow} that isn't as long as the first`,
   NUMBER: (fields) => `${valueText(fields)} has an item ${fields.item} of row ${fields.inRow} that is no exact number`,
@@ -64,7 +64,7 @@ const OF_KINDS = {
   POSITIONAL_FOR_NAMED: () => 'The query has names: give the values by name, as { id: 42 }',
   MARK_COUNT: ({ marks, values }) => `The query has ${counted(marks, 'mark')} (\`?\`) for ${counted(values, 'value')}`,
   NOT_ALONE: ofNeighbour,
-  FLOAT: (fields) => `${valueText(fields)} is a float that isn't written: give null for NaN and infinities, else a text`,
+  FLOAT: (fields) => `A float for ${placeOf(fields)} can't be written: give null for NaN and infinities, else a text`,
   UNSTEADY: ({ position }) => `Byte ${position} of the query is a backslash or isn't ASCII: bind takes the query, and ` +
     'bindInBothModes does if no string has a backslash',
   FAULT: (fields) => OF_FAULTS[fields.fault](fields),

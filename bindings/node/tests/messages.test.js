@@ -37,9 +37,11 @@ const MESSAGES = [
   [() => bind('SELECT :größe', { gr: 1 }), 'NOT_ALONE',
     `\`:gr\` at byte 7 touches \`\\xc3\`: ${ALPHABET} \`:gr\\xc3\\xb6\\xc3\\x9fe\` ends after \`gr\``],
   [() => bind(':a', { a: NaN }), 'FLOAT',
-    "The value of `:a` is a float that isn't written: give null for NaN and infinities, else a text"],
+    "A float for `:a` can't be written: give null for NaN and infinities, else a text"],
+  [() => bind('?, (?)', [1, [2, Infinity]]), 'FLOAT',
+    "A float for place 1 can't be written: give null for NaN and infinities, else a text"],
   [() => bindInBothModes('?', [0.5]), 'FLOAT',
-    "The value for place 0 is a float that isn't written: give null for NaN and infinities, else a text"],
+    "A float for place 0 can't be written: give null for NaN and infinities, else a text"],
   [() => bindAnywhere('SELECT é, ?', [1]), 'UNSTEADY',
     "Byte 7 of the query is a backslash or isn't ASCII: bind takes the query, " +
     'and bindInBothModes does if no string has a backslash'],

@@ -9,8 +9,8 @@ function theValue(place, name) {
   return name === undefined ? `The value for place ${place}` : `The value of \`:${name}\``
 }
 
-function theList(place, name) {
-  return `The list for ${name === undefined ? `place ${place}` : `\`:${name}\``}`
+function thePlace(place, name) {
+  return name === undefined ? `place ${place}` : `\`:${name}\``
 }
 
 /** A message that tells the neighbour of a place, which no case does. */
@@ -32,7 +32,7 @@ const SAID = [
     `The query has ${marks} mark${marks === '1' ? '' : 's'} (\`?\`) for ${values} value${values === '1' ? '' : 's'}`],
   [`Place \\d+ at byte (\\d+) does not stand alone${ALPHABET}`, touching],
   [`Float ${PLACE}${VALUE}(?:; give .*)?`, (place, name) =>
-    `${theValue(place, name)} is a float that isn't written: give null for NaN and infinities, else a text`],
+    `A float for ${thePlace(place, name)} can't be written: give null for NaN and infinities, else a text`],
   ['Backslash or byte that is not ASCII at byte (\\d+) of the query: .*', (byte) =>
     `Byte ${byte} of the query is a backslash or isn't ASCII: bind takes the query, and bindInBothModes does if no string has ` +
     'a backslash'],
@@ -40,7 +40,7 @@ const SAID = [
     `A string of the query has a backslash at byte ${byte}: bind takes the query`],
   [`Fragment ${PLACE} has a name with a backslash or a byte that is not ASCII${VALUE}`, (place, name) =>
     `${theValue(place, name)} has a name with a backslash or a letter outside ASCII: bind takes it`],
-  [`Fragment ${PLACE} can't be written: it is empty${VALUE}`, (place, name) => `${theList(place, name)} is empty`],
+  [`Fragment ${PLACE} can't be written: it is empty${VALUE}`, (place, name) => `The list for ${thePlace(place, name)} is empty`],
   [`Fragment ${PLACE} can't be written: it is none of the keywords .*?${VALUE}`, (place, name) =>
     `${theValue(place, name)} is none of KEYWORDS`],
   [`Fragment ${PLACE} can't be written: row (\\d+) is not as long as the first${VALUE}`, (place, row, name) =>

@@ -80,7 +80,7 @@ test('numbers that none can say', () => {
         assert.throws(() => call(':a', { a: given }), (error) => {
           assert.ok(error instanceof BindError)
           assert.deepEqual([error.number, error.kind, error.place, error.placeName], [14, 'FLOAT', 0, 'a'])
-          return error.message === "The value of `:a` is a float that isn't written: give null for NaN and infinities, else a text"
+          return error.message === "A float for `:a` can't be written: give null for NaN and infinities, else a text"
         })
       }
     }
