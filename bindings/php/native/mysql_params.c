@@ -111,8 +111,10 @@ static void hide_values(void)
     hide(&assignments_ce->function_table, "__construct", 0);
 }
 
+/* Where PHP has threads, this runs in each before all else, and the accessor of the globals reads the thread's cache. */
 static PHP_GINIT_FUNCTION(mysql_params)
 {
+    ZEND_TSRMLS_CACHE_UPDATE();
     memset(mysql_params_globals, 0, sizeof *mysql_params_globals);
     mysql_params_globals->room = pecalloc(1, KEPT_ROOM, 1);
 }
@@ -139,6 +141,7 @@ static PHP_MINIT_FUNCTION(mysql_params)
 static PHP_RINIT_FUNCTION(mysql_params)
 {
     (void)type, (void)module_number;
+    ZEND_TSRMLS_CACHE_UPDATE();
     sending_begin();
     return SUCCESS;
 }
