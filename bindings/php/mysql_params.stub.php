@@ -124,8 +124,9 @@ function first_unportable_in_client(string $query, bool $no_backslash_escape = f
  * Binds a query, sends the text by `PDO::query` or `mysqli::query`, without parameters, and returns what that returns.
  *
  * The connection's mode, character sets and max_allowed_packet are asked for before the first text, and kept while the object
- * lives. They are asked for anew when the driver tells of another mode, and with mysqli after a reconnect, `change_user` or
- * `set_charset`; with $always_ask before each text. The query is portable.
+ * lives. They are asked for anew after a query of these calls that isn't one SELECT, INSERT, UPDATE, DELETE or REPLACE, when the
+ * driver tells of another mode, and with mysqli after a reconnect, `change_user` or `set_charset`. They are asked for before each
+ * text with $always_ask, and for an object that sends by another and whose own constructor isn't called. The query is portable.
  *
  * @param array<mixed> $params
  * @throws BindException also for a connection that isn't utf8mb4, and for a text that is too long
@@ -149,7 +150,8 @@ function execute(\PDO|\mysqli $connection, string $query, array $params = [], bo
 }
 
 /**
- * Has the connection be asked anew before its next text. Call it after a `SET` of sql_mode or of a character set.
+ * Has the connection be asked anew before its next text. Call it after the driver itself was given a `SET` of sql_mode or of a
+ * character set.
  */
 function ask_again(\PDO|\mysqli $connection): void
 {

@@ -19,11 +19,13 @@ enum driver { DRIVER_PDO, DRIVER_MYSQLI };
 
 typedef struct connection {
     enum driver driver;
-    zend_object *object;
+    zend_class_entry *kind; /* the driver's own class */
+    zend_object *object;    /* of it, or of a class that extends it */
 } connection;
 
 /* A driver's own idea of the mode, and what changes if it connects anew. Nothing is sent to know it. */
 typedef struct signs {
+    bool are_known; /* never while the driver has results that it hasn't read, since those tell of later modes */
     bool mode;
     zend_long thread;  /* mysqli's number of the connection; 0 of PDO, whose object is one connection */
     zend_string *charset; /* owned; mysqli's character set; null of PDO */
@@ -34,7 +36,7 @@ typedef struct told {
     bool mode; /* without backslash escapes */
     size_t most; /* how long a text may be */
     bool is_kept; /* whether it holds as long as the signs stay: never once the driver had another idea of the mode */
-    bool is_asked_again; /* whether ask_again wants it anew */
+    bool is_asked_again; /* whether it was forgotten */
     signs signs;
 } told;
 
@@ -80,11 +82,13 @@ static bool call(zend_object *object, const char *name, zval *returned, zval *fi
     return false;
 }
 
-/* Whether an object is of a class, which is looked up by its name in lower case: a driver may not be loaded. */
-static bool is_a(const zend_object *object, const char *name)
+/* The class of a driver by its name in lower case, if an object is of it, or null. The driver may not be loaded, and then a
+ * program may have a class of that name. */
+static zend_class_entry *driver_of(const zend_object *object, const char *name)
 {
-    const zend_class_entry *kind = zend_hash_str_find_ptr(EG(class_table), name, strlen(name));
-    return kind != NULL && instanceof_function(object->ce, kind);
+    zend_class_entry *kind = zend_hash_str_find_ptr(EG(class_table), name, strlen(name));
+    bool is_driver = kind != NULL && kind->type == ZEND_INTERNAL_CLASS && instanceof_function(object->ce, kind);
+    return is_driver ? kind : NULL;
 }
 
 /* Whether a PDO is of MySQL. */
@@ -104,25 +108,38 @@ static bool is_of_mysql(zend_object *pdo)
 /* Takes a connection that was handed in. */
 static bool take_connection(zval *given, connection *connection)
 {
-    connection->object = Z_TYPE_P(given) == IS_OBJECT ? Z_OBJ_P(given) : NULL;
-    if (connection->object != NULL && is_a(connection->object, "pdo")) {
-        connection->driver = DRIVER_PDO;
-        return is_of_mysql(connection->object);
-    }
+    zend_object *object = Z_TYPE_P(given) == IS_OBJECT ? Z_OBJ_P(given) : NULL;
+    *connection = (struct connection){.driver = DRIVER_PDO, .object = object};
+    if (object != NULL && (connection->kind = driver_of(object, "pdo")) != NULL)
+        return is_of_mysql(object);
     connection->driver = DRIVER_MYSQLI;
-    if (connection->object != NULL && is_a(connection->object, "mysqli"))
+    if (object != NULL && (connection->kind = driver_of(object, "mysqli")) != NULL)
         return true;
     zend_argument_type_error(1, "must be of type PDO|mysqli, %s given", zend_zval_type_name(given));
     return false;
 }
 
-/* Whether the driver escapes a backslash by nothing: its own idea of the mode, by what the server said last. */
+/* Calls the driver's own method, which sends nothing, and none of a class that extends it: that might say anything. Returns
+ * false without an exception if there is no answer, as of an object whose constructor wasn't called. */
+static bool ask_driver(const connection *connection, const char *name, zval *answer, zval *argument)
+{
+    zend_function *method = zend_hash_str_find_ptr(&connection->kind->function_table, name, strlen(name));
+    ZVAL_UNDEF(answer);
+    zend_call_known_function(method, connection->object, connection->object->ce, answer, argument != NULL, argument, NULL);
+    if (EG(exception) == NULL)
+        return true;
+    zend_clear_exception();
+    return false;
+}
+
+/* Whether the driver escapes a backslash by nothing: its own idea of the mode, by what the server said last. Returns whether
+ * it has one. */
 static bool mode_of_driver(const connection *connection, bool *mode)
 {
     bool is_pdo = connection->driver == DRIVER_PDO;
     zval backslash, escaped;
     ZVAL_STRINGL(&backslash, "\\", 1);
-    bool is_known = call(connection->object, is_pdo ? "quote" : "real_escape_string", &escaped, &backslash, NULL);
+    bool is_known = ask_driver(connection, is_pdo ? "quote" : "real_escape_string", &escaped, &backslash);
     zval_ptr_dtor(&backslash);
     if (!is_known)
         return false;
@@ -131,35 +148,45 @@ static bool mode_of_driver(const connection *connection, bool *mode)
         backslashes += Z_STRVAL(escaped)[i] == '\\';
     *mode = backslashes == 1;
     zval_ptr_dtor(&escaped);
-    return true;
+    return backslashes > 0;
 }
 
-/* Asks the driver, and not the server. */
-static bool signs_of(const connection *connection, signs *signs)
+/* Whether the driver has all results of what was sent by it before. PDO doesn't say so, and sends nothing until it has. */
+static bool has_all_results(const connection *connection)
 {
-    zval charset, held, *thread;
-    signs->thread = 0;
-    signs->charset = NULL;
-    if (!mode_of_driver(connection, &signs->mode))
-        return false;
+    zval has_more;
     if (connection->driver == DRIVER_PDO)
         return true;
-    thread = zend_read_property(connection->object->ce, connection->object, "thread_id", sizeof "thread_id" - 1, 1,
-                                &held);
-    if (EG(exception) != NULL)
-        return false;
-    signs->thread = zval_get_long(thread);
-    if (!call(connection->object, "character_set_name", &charset, NULL, NULL))
+    return ask_driver(connection, "more_results", &has_more, NULL) && Z_TYPE(has_more) == IS_FALSE;
+}
+
+/* Sets what mysqli tells of its connection. Returns whether it does. */
+static bool take_connected(const connection *connection, signs *signs)
+{
+    zval charset, held;
+    signs->thread = zval_get_long(zend_read_property(connection->object->ce, connection->object, "thread_id",
+                                                     sizeof "thread_id" - 1, 1, &held));
+    if (!ask_driver(connection, "character_set_name", &charset, NULL))
         return false;
     signs->charset = zval_get_string(&charset);
     zval_ptr_dtor(&charset);
     return true;
 }
 
+/* Asks the driver, and not the server. */
+static signs signs_of(const connection *connection)
+{
+    signs signs = {0};
+    signs.are_known = has_all_results(connection) && mode_of_driver(connection, &signs.mode) &&
+                      (connection->driver == DRIVER_PDO || take_connected(connection, &signs));
+    return signs;
+}
+
+/* Whether both are known and the same. */
 static bool are_equal(const signs *a, const signs *b)
 {
     bool have = a->charset != NULL && b->charset != NULL;
-    return a->mode == b->mode && a->thread == b->thread &&
+    return a->are_known && b->are_known && a->mode == b->mode && a->thread == b->thread &&
            (have ? zend_string_equals(a->charset, b->charset) : a->charset == b->charset);
 }
 
@@ -309,12 +336,11 @@ static told *kept_of(const connection *connection)
 }
 
 /* Keeps what a connection answered, with the signs that the driver has then. */
-static bool keep(const connection *connection, told *told)
+static void keep(const connection *connection, told *told)
 {
-    if (!signs_of(connection, &told->signs))
-        return false;
     struct told *kept = kept_of(connection);
-    told->is_kept = told->signs.mode == told->mode && (kept == NULL || kept->is_kept);
+    told->signs = signs_of(connection);
+    told->is_kept = told->signs.are_known && told->signs.mode == told->mode && (kept == NULL || kept->is_kept);
     told->is_asked_again = false;
     if (kept == NULL) {
         kept = ecalloc(1, sizeof *kept);
@@ -322,27 +348,39 @@ static bool keep(const connection *connection, told *told)
     }
     signs_free(&kept->signs);
     *kept = *told;
-    return true;
+}
+
+/* Has a connection be asked before the next text. */
+static void forget(const connection *connection)
+{
+    told *kept = kept_of(connection);
+    if (kept != NULL)
+        kept->is_asked_again = true;
+}
+
+/* Whether what a connection answered before holds still, as far as its driver knows. */
+static bool holds(const connection *connection, const told *kept)
+{
+    if (kept == NULL || !kept->is_kept || kept->is_asked_again)
+        return false;
+    signs now = signs_of(connection);
+    bool holds = are_equal(&now, &kept->signs);
+    signs_free(&now);
+    return holds;
 }
 
 /* What a connection answered, now or before. */
 static bool told_by(const connection *connection, bool always_ask, told *told)
 {
     const struct told *kept = kept_of(connection);
-    signs now;
-    if (!always_ask && kept != NULL && kept->is_kept && !kept->is_asked_again) {
-        if (!signs_of(connection, &now)) {
-            signs_free(&now);
-            return false;
-        }
-        bool holds = are_equal(&now, &kept->signs);
-        signs_free(&now);
-        if (holds) {
-            *told = *kept;
-            return true;
-        }
+    if (!always_ask && holds(connection, kept)) {
+        *told = *kept;
+        return true;
     }
-    return ask_connection(connection, told) && keep(connection, told);
+    if (!ask_connection(connection, told))
+        return false;
+    keep(connection, told);
+    return true;
 }
 
 /* The text to send over a connection, for a query that is portable in its mode. */
@@ -407,16 +445,60 @@ static bool text_of(const sending *sending, zval *text)
     return made != NULL;
 }
 
+/* Whether a query is one SELECT, INSERT, UPDATE, DELETE or REPLACE: these leave the session as it is. Of a query that may
+ * be so, as one with a `;` in a string, it is said that it isn't. */
+static bool leaves_session(const zend_string *query)
+{
+    static const char *const words[] = {"select", "insert", "update", "delete", "replace"};
+    const char *at = ZSTR_VAL(query), *end = at + ZSTR_LEN(query);
+    while (at < end && isspace((unsigned char)*at))
+        at++;
+    while (at < end && (isspace((unsigned char)end[-1]) || end[-1] == ';'))
+        end--;
+    size_t len = 0;
+    while (at + len < end && isalpha((unsigned char)at[len]))
+        len++;
+    for (size_t i = 0; i < sizeof words / sizeof *words; i++) {
+        if (len == strlen(words[i]) && zend_binary_strcasecmp(at, len, words[i], len) == 0)
+            return memchr(at, ';', (size_t)(end - at)) == NULL;
+    }
+    return false;
+}
+
+/* Sends a text by the driver's `query`, or by its `exec`. */
+typedef bool sender(const connection *connection, zval *text, zval *returned);
+
+/* Sends the text of a call. What its connection answered is forgotten if the text may change it: before, since a method of
+ * a user may send another text meanwhile, and after, since that one asked before the change. */
+static bool send_by(sender *send, const sending *sending, zval *returned)
+{
+    zval text;
+    bool leaves = leaves_session(sending->query);
+    ZVAL_UNDEF(returned);
+    if (!text_of(sending, &text))
+        return false;
+    if (!leaves)
+        forget(&sending->connection);
+    bool is_sent = send(&sending->connection, &text, returned);
+    zval_ptr_dtor(&text);
+    if (!leaves)
+        forget(&sending->connection);
+    return is_sent;
+}
+
 PHP_FUNCTION(MysqlParams_query)
 {
     sending sending;
-    zval text;
-    if (!take_sending(INTERNAL_FUNCTION_PARAM_PASSTHRU, &sending) || !text_of(&sending, &text))
+    if (!take_sending(INTERNAL_FUNCTION_PARAM_PASSTHRU, &sending) || !send_by(send_query, &sending, return_value))
         RETURN_THROWS();
-    bool is_sent = send_query(&sending.connection, &text, return_value);
-    zval_ptr_dtor(&text);
-    if (!is_sent)
-        RETURN_THROWS();
+}
+
+/* Sends a text for which PDO returns how many rows it changed. */
+static bool send_change(const connection *connection, zval *text, zval *returned)
+{
+    if (connection->driver == DRIVER_PDO)
+        return call(connection->object, "exec", returned, text, NULL);
+    return send_query(connection, text, returned);
 }
 
 /* Returns how many rows a text of mysqli changed, after its result, if it has one, was let go of. */
@@ -436,18 +518,12 @@ static void return_changed(zend_object *mysqli, zval *result, zval *return_value
 PHP_FUNCTION(MysqlParams_execute)
 {
     sending sending;
-    zval text, result;
-    if (!take_sending(INTERNAL_FUNCTION_PARAM_PASSTHRU, &sending) || !text_of(&sending, &text))
+    zval result;
+    if (!take_sending(INTERNAL_FUNCTION_PARAM_PASSTHRU, &sending) || !send_by(send_change, &sending, &result))
         RETURN_THROWS();
-    bool is_pdo = sending.connection.driver == DRIVER_PDO;
-    zend_object *object = sending.connection.object;
-    bool is_sent = call(object, is_pdo ? "exec" : "query", is_pdo ? return_value : &result, &text, NULL);
-    zval_ptr_dtor(&text);
-    if (!is_sent)
-        RETURN_THROWS();
-    if (is_pdo)
-        return;
-    return_changed(object, &result, return_value);
+    if (sending.connection.driver == DRIVER_PDO)
+        RETURN_COPY_VALUE(&result);
+    return_changed(sending.connection.object, &result, return_value);
     zval_ptr_dtor(&result);
 }
 
@@ -460,7 +536,5 @@ PHP_FUNCTION(MysqlParams_ask_again)
     ZEND_PARSE_PARAMETERS_END();
     if (!take_connection(given, &connection))
         RETURN_THROWS();
-    told *kept = kept_of(&connection);
-    if (kept != NULL)
-        kept->is_asked_again = true;
+    forget(&connection);
 }
