@@ -216,4 +216,8 @@ const mysql_params_template *kept_template(zend_string *query);
 void sending_begin(void);
 void sending_end(void);
 
+/* Takes the arguments out of the traces of the exception that was thrown, and of those before it, from within the call that
+ * sent a text. */
+void hide_sent_text(void);
+
 #endif

@@ -483,6 +483,8 @@ static bool send_by(sender *send, const sending *sending, zval *returned)
     zval_ptr_dtor(&text);
     if (!leaves)
         forget(&sending->connection);
+    if (EG(exception) != NULL)
+        hide_sent_text();
     return is_sent;
 }
 

@@ -181,6 +181,95 @@ test('the call of the first page', function () {
     same(42, (int) \MysqlParams\query($pdo, 'SELECT :id', ['id' => 42])->fetchColumn());
 });
 
+/** A PDO whose exceptions have those of the driver before them. */
+class Wrapping extends \PDO
+{
+    /** @var ?callable what is made of an exception before it is thrown */
+    public static $made = null;
+
+    public function query(string $query, ?int $fetchMode = null, mixed ...$fetchModeArgs): \PDOStatement|false
+    {
+        return $this->sent([$query]);
+    }
+
+    private function sent(array $texts): \PDOStatement
+    {
+        try {
+            return parent::query($texts[0]);
+        } catch (\PDOException $fault) {
+            $thrown = new \DomainException('mine', 0, new \Error('mine too', 0, $fault));
+            throw self::$made ? (self::$made)($thrown) : $thrown;
+        }
+    }
+}
+
+/** Calls with an argument of its own, which a trace may show. */
+function calling(string $mine, callable $call): mixed
+{
+    return $call();
+}
+
+/** Throws unless an exception and those before it show neither the text that was sent nor a value, and their frames stay. */
+function hidden(\Throwable $fault, string $of): void
+{
+    $shown = '';
+    for ($one = $fault; $one !== null; $one = $one->getPrevious()) {
+        $shown .= $one . print_r($one->getTrace(), true);
+        holds(in_array('MysqlParams\\Tests\\calling', array_column($one->getTrace(), 'function'), true), $of);
+        holds(str_contains(print_r($one->getTrace(), true), 'own argument'), $of);
+    }
+    holds(!str_contains($shown, 'secret') && !str_contains($shown, "nofn('"), "$of: $shown");
+    holds(preg_match('/#[0-9]+ .*: (PDO|mysqli)->(query|exec)\(\)/', $shown) === 1, "$of: $shown");
+}
+
+test('no trace of a driver shows a text', function () {
+    ini_set('zend.exception_ignore_args', '0');
+    foreach (connections() + ['wrapped' => pdo(kind: Wrapping::class)] as $driver => $connection) {
+        foreach ([query(...), execute(...)] as $send) {
+            hidden(thrown(fn () => calling('own argument', fn () => $send($connection, 'SELECT nofn(:a)', ['a' => 'secret']))), $driver);
+        }
+    }
+});
+
+test('no warning of a driver shows a text', function () {
+    mysqli_report(MYSQLI_REPORT_ERROR);
+    try {
+        foreach (['PDO' => pdo([\PDO::ATTR_ERRMODE => \PDO::ERRMODE_WARNING]), 'mysqli' => mysqli()] as $driver => $connection) {
+            foreach ([query(...), execute(...)] as $send) {
+                error_clear_last();
+                same(false, @$send($connection, 'SELECT nofn(:a)', ['a' => 'secret']), $driver);
+                $told = error_get_last()['message'];
+                holds(str_contains($told, 'nofn') && !str_contains($told, 'secret'), $told);
+                set_error_handler(fn ($number, $message) => throw new \ErrorException($message));
+                try {
+                    hidden(thrown(fn () => calling('own argument', fn () => $send($connection, 'SELECT nofn(:a)', ['a' => 'secret']))), $driver);
+                } finally {
+                    restore_error_handler();
+                }
+            }
+        }
+    } finally {
+        mysqli_report(MYSQLI_REPORT_ERROR | MYSQLI_REPORT_STRICT);
+    }
+});
+
+test('exceptions that are a ring, and traces of other things', function () {
+    $connection = pdo(kind: Wrapping::class);
+    $given = ['previous' => fn ($fault) => $fault, 'trace' => fn () => [5, [], ['function' => 7], ['function' => 'MysqlParams\\query', 'args' => ['kept']]]];
+    foreach ($given as $name => $value) {
+        $property = new \ReflectionProperty(\Exception::class, $name);
+        Wrapping::$made = function (\Throwable $fault) use ($property, $value) {
+            $property->setValue($fault, $value($fault));
+            return $fault;
+        };
+        $fault = thrown(fn () => query($connection, 'SELECT nofn(:a)', ['a' => 'secret']));
+        same('mine', $fault->getMessage());
+        same($value($fault), $property->getValue($fault));
+        $property->setValue($fault, $name === 'previous' ? null : []);
+    }
+    Wrapping::$made = null;
+});
+
 test("a driver's own refusals", function () {
     holds(thrown(fn () => query(pdo(), 'SELECT FROM :a', ['a' => 1])) instanceof \PDOException);
     holds(thrown(fn () => query(mysqli(), 'SELECT FROM :a', ['a' => 1])) instanceof \mysqli_sql_exception);
