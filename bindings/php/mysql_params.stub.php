@@ -59,7 +59,8 @@ function bind_in_both_modes(string $query, array $params = []): string
 /**
  * Returns the text of each row: what bind returns for the query and the row's parameters. Each place takes one value.
  *
- * The query is parsed once for many rows. The BindException of a row tells its number, and the texts of the rows before it.
+ * The query is parsed once for many rows. The BindException of a row tells its number, and by `texts()` the texts of the rows
+ * before it.
  *
  * @param iterable<array<mixed>> $rows
  * @return list<string>
@@ -387,10 +388,18 @@ class BindException extends \RuntimeException
     public ?string $name = null;
     /** The whole word of the query, if a letter outside ASCII stands in it after a colon, as in `:größe`. */
     public ?string $word = null;
-    /** @var ?list<string> of bind_rows: the texts of the rows before it */
-    public ?array $texts = null;
     /** Of UNPORTABLE: what servers read in different ways. */
     public ?Construct $construct = null;
     /** Of FAULT: what is wrong. */
     public ?Fault $fault = null;
+
+    /**
+     * Of bind_rows: returns the texts of the rows before it. Another refusal has none, and one that was unserialized. They hold
+     * values, so they are no field, which `var_dump` or a page of errors would show.
+     *
+     * @return ?list<string>
+     */
+    public function texts(): ?array
+    {
+    }
 }

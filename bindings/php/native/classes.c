@@ -5,6 +5,7 @@
 #include "Zend/zend_exceptions.h"
 #include "Zend/zend_interfaces.h"
 #include "Zend/zend_smart_str.h"
+#include "Zend/zend_weakrefs.h"
 #include "ext/spl/spl_exceptions.h"
 
 zend_class_entry *template_ce, *decimal_ce, *identifier_ce, *assignments_ce, *keyword_ce, *names_ce;
@@ -291,6 +292,14 @@ PHP_METHOD(MysqlParams_Construct, message)
     RETURN_STRING(mysql_params_construct_message((int32_t)Z_LVAL_P(number)));
 }
 
+PHP_METHOD(MysqlParams_BindException, texts)
+{
+    ZEND_PARSE_PARAMETERS_NONE();
+    zval *texts = zend_hash_index_find(&MYSQL_PARAMS_G(texts), zend_object_to_weakref_key(Z_OBJ_P(ZEND_THIS)));
+    if (texts != NULL)
+        RETURN_COPY(texts);
+}
+
 #include "mysql_params_arginfo.h"
 
 /* What only the functions of this extension make. */
@@ -456,13 +465,12 @@ void register_refusals(void)
     unportable_ce = register_class("MysqlParams\\Unportable", unportable_methods);
     declare(unportable_ce, "construct", type_of(construct_ce, false));
     declare_mask(unportable_ce, "position", MAY_BE_LONG);
-    INIT_CLASS_ENTRY(kind, "MysqlParams\\BindException", NULL);
+    INIT_CLASS_ENTRY(kind, "MysqlParams\\BindException", exception_methods);
     exception_ce = zend_register_internal_class_ex(&kind, spl_ce_RuntimeException);
     for (size_t i = 0; i < sizeof numbers / sizeof *numbers; i++)
         declare_field(numbers[i], (zend_type)ZEND_TYPE_INIT_MASK(MAY_BE_LONG | MAY_BE_NULL));
     for (size_t i = 0; i < sizeof texts / sizeof *texts; i++)
         declare_field(texts[i], (zend_type)ZEND_TYPE_INIT_MASK(MAY_BE_STRING | MAY_BE_NULL));
-    declare_field("texts", (zend_type)ZEND_TYPE_INIT_MASK(MAY_BE_ARRAY | MAY_BE_NULL));
     declare_field("construct", type_of(construct_ce, true));
     declare_field("fault", type_of(fault_ce, true));
     for (size_t i = 0; i < sizeof codes / sizeof *codes; i++)

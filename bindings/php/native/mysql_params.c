@@ -2,6 +2,7 @@
 #include "php_mysql_params.h"
 
 #include "Zend/zend_attributes.h"
+#include "Zend/zend_weakrefs.h"
 #include "ext/standard/info.h"
 
 ZEND_DECLARE_MODULE_GLOBALS(mysql_params)
@@ -138,18 +139,30 @@ static PHP_MINIT_FUNCTION(mysql_params)
     return SUCCESS;
 }
 
+/* Ends a table whose keys are objects, of which some live on. */
+static void end_table(HashTable *table)
+{
+    zend_ulong key;
+    ZEND_HASH_FOREACH_NUM_KEY(table, key) {
+        zend_weakrefs_hash_del(table, zend_weakref_key_to_object(key));
+    } ZEND_HASH_FOREACH_END();
+    zend_hash_destroy(table);
+}
+
 static PHP_RINIT_FUNCTION(mysql_params)
 {
     (void)type, (void)module_number;
     ZEND_TSRMLS_CACHE_UPDATE();
-    sending_begin();
+    zend_hash_init(&MYSQL_PARAMS_G(told), 0, NULL, told_free, 0);
+    zend_hash_init(&MYSQL_PARAMS_G(texts), 0, NULL, ZVAL_PTR_DTOR, 0);
     return SUCCESS;
 }
 
 static PHP_RSHUTDOWN_FUNCTION(mysql_params)
 {
     (void)type, (void)module_number;
-    sending_end();
+    end_table(&MYSQL_PARAMS_G(told));
+    end_table(&MYSQL_PARAMS_G(texts));
     return SUCCESS;
 }
 

@@ -30,6 +30,9 @@ ZEND_END_ARG_INFO()
 ZEND_BEGIN_ARG_WITH_RETURN_TYPE_INFO_EX(arginfo_text, 0, 0, IS_STRING, 0)
 ZEND_END_ARG_INFO()
 
+ZEND_BEGIN_ARG_WITH_RETURN_TYPE_INFO_EX(arginfo_exception_texts, 0, 0, IS_ARRAY, 1)
+ZEND_END_ARG_INFO()
+
 ZEND_BEGIN_ARG_INFO_EX(arginfo_identifier_construct, 0, 0, 0)
     ZEND_ARG_VARIADIC_TYPE_INFO(0, parts, IS_STRING, 0)
 ZEND_END_ARG_INFO()
@@ -53,6 +56,7 @@ PHP_METHOD(MysqlParams_Identifier, __construct);
 PHP_METHOD(MysqlParams_Assignments, __construct);
 PHP_METHOD(MysqlParams_Keyword, __construct);
 PHP_METHOD(MysqlParams_Construct, message);
+PHP_METHOD(MysqlParams_BindException, texts);
 PHP_METHOD(MysqlParams_Unportable, __construct);
 PHP_METHOD(MysqlParams_Names, __construct);
 
@@ -87,6 +91,11 @@ static const zend_function_entry keyword_methods[] = {
 
 static const zend_function_entry construct_methods[] = {
     PHP_ME(MysqlParams_Construct, message, arginfo_text, ZEND_ACC_PUBLIC)
+    PHP_FE_END
+};
+
+static const zend_function_entry exception_methods[] = {
+    PHP_ME(MysqlParams_BindException, texts, arginfo_exception_texts, ZEND_ACC_PUBLIC)
     PHP_FE_END
 };
 

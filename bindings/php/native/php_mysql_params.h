@@ -37,7 +37,8 @@ typedef struct kept_query {
 ZEND_BEGIN_MODULE_GLOBALS(mysql_params)
     uint8_t *room;  /* owned, KEPT_ROOM bytes that have a value; not used across code of a user */
     kept_query kept[KEPT_QUERIES]; /* see kept.c */
-    HashTable told; /* what connections answered, by their objects; see sending.c */
+    HashTable told;  /* what connections answered, by their objects; see sending.c */
+    HashTable texts; /* what refusals of rows tell by texts(), by their objects: no property, so that nothing shows them */
 ZEND_END_MODULE_GLOBALS(mysql_params)
 
 ZEND_EXTERN_MODULE_GLOBALS(mysql_params)
@@ -160,6 +161,9 @@ zend_string *answer(const question *question);
 /* Throws what a number of the archive that isn't done says. `row` is the row of many, or -1. */
 void refuse(const question *question, int32_t number, const mysql_params_report *report, zend_long row);
 
+/* Has a refusal tell an array of texts. */
+void keep_texts(zend_object *refusal, zval *texts);
+
 /* Ends the request as PHP does where it has no memory. */
 ZEND_NORETURN void refuse_memory(void);
 
@@ -212,9 +216,8 @@ void kept_end(kept_query kept[KEPT_QUERIES]);
 /* The template that is kept of a query, for the mode with backslash escapes, or null. It is kept until the next call. */
 const mysql_params_template *kept_template(zend_string *query);
 
-/* What sending.c keeps for a request. */
-void sending_begin(void);
-void sending_end(void);
+/* Frees what a connection answered, of MYSQL_PARAMS_G(told). */
+void told_free(zval *kept);
 
 /* Takes the arguments out of the traces of the exception that was thrown, and of those before it, from within the call that
  * sent a text. */

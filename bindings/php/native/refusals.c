@@ -3,6 +3,7 @@
 
 #include "Zend/zend_enum.h"
 #include "Zend/zend_exceptions.h"
+#include "Zend/zend_weakrefs.h"
 #include "ext/spl/spl_exceptions.h"
 
 zend_class_entry *exception_ce, *construct_ce, *fault_ce, *unportable_ce;
@@ -34,6 +35,12 @@ static void throw(zend_object *refusal)
     zval thrown;
     ZVAL_OBJ(&thrown, refusal);
     zend_throw_exception_object(&thrown);
+}
+
+void keep_texts(zend_object *refusal, zval *texts)
+{
+    Z_ADDREF_P(texts);
+    zend_weakrefs_hash_add(&MYSQL_PARAMS_G(texts), refusal, texts);
 }
 
 static void set_long(zend_object *refusal, const char *name, size_t number)

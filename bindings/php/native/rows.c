@@ -29,11 +29,11 @@ static zend_long done(const binder *binder)
     return zend_hash_num_elements(Z_ARRVAL_P(binder->texts));
 }
 
-/* Sets in a refusal the texts of the rows before it. */
+/* Has a refusal tell the texts of the rows before it. */
 static void tell_texts(const binder *binder)
 {
     if (EG(exception) != NULL && EG(exception)->ce == exception_ce)
-        zend_update_property(exception_ce, EG(exception), "texts", sizeof "texts" - 1, binder->texts);
+        keep_texts(EG(exception), binder->texts);
 }
 
 /* Throws what the row whose form stands first is refused for. */

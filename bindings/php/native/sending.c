@@ -47,26 +47,11 @@ static void signs_free(signs *signs)
     signs->charset = NULL;
 }
 
-static void told_free(zval *kept)
+void told_free(zval *kept)
 {
     told *gone = Z_PTR_P(kept);
     signs_free(&gone->signs);
     efree(gone);
-}
-
-void sending_begin(void)
-{
-    zend_hash_init(&MYSQL_PARAMS_G(told), 0, NULL, told_free, 0);
-}
-
-void sending_end(void)
-{
-    zend_ulong key;
-    HashTable *all = &MYSQL_PARAMS_G(told);
-    ZEND_HASH_FOREACH_NUM_KEY(all, key) {
-        zend_weakrefs_hash_del(all, zend_weakref_key_to_object(key));
-    } ZEND_HASH_FOREACH_END();
-    zend_hash_destroy(all);
 }
 
 /* Calls a method of an object with up to two arguments. Returns false with an exception thrown. */

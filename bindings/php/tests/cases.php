@@ -280,7 +280,7 @@ function judge_rows(Case_ $case, callable $call): void
     }
     $fault = thrown($call);
     $fields = fields($fault);
-    same($case->texts, $fault->texts);
+    same($case->texts, $fault->texts());
     same(count($case->texts), $fault->row);
     unset($fields['texts'], $fields['row']);
     same($case->wanted(), $fields);

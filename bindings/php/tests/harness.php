@@ -71,16 +71,29 @@ function refused(string $kind, string $message, callable $call): \Throwable
     return $fault;
 }
 
-/** Returns the fields of a refusal that aren't null, in the order of their names. */
+/** Returns the fields of a refusal that aren't null, and its texts, in the order of their names. */
 function fields(\MysqlParams\BindException $refusal): array
 {
     $fields = [];
-    foreach (['byte', 'construct', 'fault', 'item', 'marks', 'name', 'place', 'position', 'row', 'texts', 'values', 'word'] as $field) {
+    foreach (['byte', 'construct', 'fault', 'item', 'marks', 'name', 'place', 'position', 'row', 'values', 'word'] as $field) {
         if ($refusal->$field !== null) {
             $fields[$field] = $refusal->$field;
         }
     }
+    if ($refusal->texts() !== null) {
+        $fields['texts'] = $refusal->texts();
+    }
+    ksort($fields);
     return $fields;
+}
+
+/** Returns what PHP writes that runs code over the extension, in a process of its own, and its status. */
+function in_process(string $code): array
+{
+    $words = [PHP_BINARY, '-n', '-d', 'display_errors=1', '-d', 'log_errors=0', '-d', 'html_errors=0'];
+    array_push($words, '-d', 'extension=' . getenv('MODULE'), '-r', $code);
+    exec(implode(' ', array_map(escapeshellarg(...), $words)) . ' 2>&1', $lines, $status);
+    return [trim(implode("\n", $lines)), $status];
 }
 
 /** Ends the program of tests. */

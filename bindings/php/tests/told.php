@@ -13,14 +13,6 @@ use function MysqlParams\{bind, bind_anywhere, bind_in_both_modes, bind_rows, fi
 
 require __DIR__ . '/harness.php';
 
-/** Returns what PHP writes that runs code over this extension, and its status. */
-function in_process(string $code): array
-{
-    $words = [PHP_BINARY, '-n', '-d', 'display_errors=1', '-d', 'log_errors=0', '-d', 'html_errors=0', '-d', 'extension=' . getenv('MODULE'), '-r', $code];
-    exec(implode(' ', array_map(escapeshellarg(...), $words)) . ' 2>&1', $lines, $status);
-    return [trim($lines ? implode("\n", $lines) : ''), $status];
-}
-
 test('memory that is refused is an error of PHP', function () {
     $calls = ["MysqlParams\\bind('1')", "MysqlParams\\bind_anywhere('1', [1])", "MysqlParams\\bind_in_both_modes('1')", "MysqlParams\\names('1')",
         "MysqlParams\\bind_rows('1', [[1]])", "new MysqlParams\\Template('1')", "MysqlParams\\first_unportable('-1')", "MysqlParams\\bind('1', [[1, 2]])",

@@ -282,7 +282,7 @@ test('rows with floats among them', function () {
 test('the first row that is refused is told', function () {
     // A row that waits is refused before the type of a later one, and before what the iterator throws.
     $refusal = refused(BindException::class, 'row 1: Query has 1 marks and 2 values', fn () => bind_rows('SELECT ?', [[1], [1, 2], [STDIN]]));
-    same(['SELECT 1'], $refusal->texts);
+    same(['SELECT 1'], $refusal->texts());
     $given = function () {
         yield [1];
         yield [1, 2];
@@ -298,7 +298,7 @@ test('the first row that is refused is told', function () {
     $many = array_fill(0, 5000, ['some value']);
     $many[4321] = [1, 2];
     $refusal = thrown(fn () => bind_rows('SELECT ?', $many));
-    same([4321, 4321], [$refusal->row, count($refusal->texts)]);
+    same([4321, 4321], [$refusal->row, count($refusal->texts())]);
 });
 
 test('rows of an iterator that calls the extension itself', function () {
