@@ -113,10 +113,13 @@ static bool bind_waiting(binder *binder, size_t len)
     return is_bound;
 }
 
-/* After an exception: binds the rows before it, of which one may be refused, and throws the first of both. */
+/* After an exception: binds the rows before it, of which one may be refused, and throws the first of both. What ends the
+ * program, or a fiber, stays as it is. */
 static bool bind_before(binder *binder, size_t len)
 {
     zend_object *held = EG(exception);
+    if (zend_is_unwind_exit(held) || zend_is_graceful_exit(held))
+        return false;
     GC_ADDREF(held);
     zend_clear_exception();
     if (bind_waiting(binder, len))

@@ -47,6 +47,41 @@ test('texts are of one refusal', function () {
     same(3, count($texts));
 });
 
+test('an iterator that ends the program', function () {
+    foreach (["yield [1]; exit('left');", "yield [1, 2]; exit('left');", "yield [1, 2]; yield from (function () { exit('left'); yield; })();"] as $body) {
+        $code = "try { MysqlParams\\bind_rows('SELECT ?', (function () { $body })()); } catch (Throwable) { echo 'caught'; } finally { echo 'finally'; } echo 'went on';";
+        same(['left', 0], in_process($code), $body);
+    }
+    $code = "MysqlParams\\bind_rows('SELECT ?', (function () { yield [1, 2]; exit(7); })());";
+    same(['', 7], in_process($code));
+});
+
+test('a fiber that ends within an iterator', function () {
+    foreach ([[1], [1, 2]] as $row) {
+        $said = [];
+        $fiber = new \Fiber(function () use (&$said, $row) {
+            try {
+                bind_rows('SELECT ?', (function () use (&$said, $row) {
+                    try {
+                        yield $row;
+                        \Fiber::suspend();
+                        yield [2];
+                    } finally {
+                        $said[] = 'left';
+                    }
+                })());
+            } catch (\Throwable $fault) {
+                $said[] = get_class($fault);
+            }
+            $said[] = 'went on';
+        });
+        $fiber->start();
+        unset($fiber);
+        gc_collect_cycles();
+        same(['left'], $said);
+    }
+});
+
 /** An iterator whose each step calls what it was given. */
 final class Stepping implements \Iterator
 {
