@@ -27,6 +27,6 @@ if test "$PHP_MYSQL_PARAMS" != "no"; then
   MYSQL_PARAMS_SHARED_LIBADD="$MYSQL_PARAMS_FLAGS $abs_srcdir/libmysql_params_c.a"
   PHP_SUBST([MYSQL_PARAMS_SHARED_LIBADD])
   PHP_NEW_EXTENSION([mysql_params],
-    [mysql_params.c calls.c classes.c form.c kept.c moments.c refusals.c rows.c sending.c traces.c values.c mysql_params_form.c],
+    [mysql_params.c calls.c classes.c form.c kept.c messages.c moments.c refusals.c rows.c sending.c traces.c values.c mysql_params_form.c],
     [$ext_shared],, [-std=gnu11 -fvisibility=hidden -ffunction-sections $MYSQL_PARAMS_CFLAGS -DZEND_ENABLE_STATIC_TSRMLS_CACHE=1])
 fi

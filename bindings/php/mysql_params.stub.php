@@ -12,7 +12,7 @@
  * a sign. PHP makes a float of a whole number that no int holds: write a Decimal. A Decimal of up to 64 bits is taken wherever a
  * value is.
  *
- * `$no_backslash_escape` says whether the connection's `@@sql_mode` has NO_BACKSLASH_ESCAPES. It is true or false: anything
+ * `$noBackslashEscape` says whether the connection's `@@sql_mode` has NO_BACKSLASH_ESCAPES. It is true or false: anything
  * else is a TypeError.
  */
 
@@ -40,7 +40,7 @@ function bind_anywhere(string $query, array $params = []): string
  * @throws BindException for a query or parameters that are refused
  * @throws \TypeError|\ValueError for a value that has no literal
  */
-function bind(string $query, array $params = [], bool $no_backslash_escape = false): string
+function bind(string $query, array $params = [], bool $noBackslashEscape = false): string
 {
 }
 
@@ -67,7 +67,7 @@ function bind_in_both_modes(string $query, array $params = []): string
  * @throws BindException for the first row that is refused
  * @throws \TypeError|\ValueError for a value that has no literal
  */
-function bind_rows(string $query, iterable $rows, bool $no_backslash_escape = false): array
+function bind_rows(string $query, iterable $rows, bool $noBackslashEscape = false): array
 {
 }
 
@@ -76,7 +76,7 @@ function bind_rows(string $query, iterable $rows, bool $no_backslash_escape = fa
  *
  * @throws BindException
  */
-function bind_form(string $query, string $form, bool $no_backslash_escape = false): string
+function bind_form(string $query, string $form, bool $noBackslashEscape = false): string
 {
 }
 
@@ -103,21 +103,21 @@ function bind_form_in_both_modes(string $query, string $form): string
  *
  * @throws BindException for a query with names and marks
  */
-function names(string $query, bool $no_backslash_escape = false): Names
+function names(string $query, bool $noBackslashEscape = false): Names
 {
 }
 
 /**
  * Returns the first construct of a query that servers read in different ways, or null if there is none.
  */
-function first_unportable(string $query, bool $no_backslash_escape = false): ?Unportable
+function first_unportable(string $query, bool $noBackslashEscape = false): ?Unportable
 {
 }
 
 /**
  * Returns the same for a query whose bound text goes through the client `mysql --comments`.
  */
-function first_unportable_in_client(string $query, bool $no_backslash_escape = false): ?Unportable
+function first_unportable_in_client(string $query, bool $noBackslashEscape = false): ?Unportable
 {
 }
 
@@ -127,13 +127,13 @@ function first_unportable_in_client(string $query, bool $no_backslash_escape = f
  * The connection's mode, character sets and max_allowed_packet are asked for before the first text, and kept while the object
  * lives. They are asked for anew after a query of these calls that isn't one SELECT, INSERT, UPDATE, DELETE or REPLACE, when the
  * driver tells of another mode, and with mysqli after a reconnect, `change_user` or `set_charset`. They are asked for before each
- * text with $always_ask, and for an object that sends by another and whose own constructor isn't called. The query is portable.
+ * text with $alwaysAsk, and for an object that sends by another and whose own constructor isn't called. The query is portable.
  *
  * @param array<mixed> $params
  * @throws BindException also for a connection that isn't utf8mb4, and for a text that is too long
  * @throws \TypeError|\ValueError for a value that has no literal
  */
-function query(\PDO|\mysqli $connection, string $query, array $params = [], bool $always_ask = false): \PDOStatement|\mysqli_result|bool
+function query(\PDO|\mysqli $connection, string $query, array $params = [], bool $alwaysAsk = false): \PDOStatement|\mysqli_result|bool
 {
 }
 
@@ -146,7 +146,7 @@ function query(\PDO|\mysqli $connection, string $query, array $params = [], bool
  * @throws BindException also for a connection that isn't utf8mb4, and for a text that is too long
  * @throws \TypeError|\ValueError for a value that has no literal
  */
-function execute(\PDO|\mysqli $connection, string $query, array $params = [], bool $always_ask = false): int|string|false
+function execute(\PDO|\mysqli $connection, string $query, array $params = [], bool $alwaysAsk = false): int|string|false
 {
 }
 
@@ -323,7 +323,7 @@ enum Fault: int
     case ZeroByte = 6;
     case LongName = 7;
     case TrailingSpace = 8;
-    /** The word is none of those that the class Keyword lists. The message names C's header, which lists them too. */
+    /** The word is none of those that the class Keyword lists. */
     case Keyword = 9;
     case Backslash = 10;
 }

@@ -16,6 +16,7 @@
 #include "config.h"
 #endif
 #include "php.h"
+#include "Zend/zend_smart_str_public.h"
 
 #include "mysql_params_form.h"
 
@@ -134,6 +135,9 @@ bool write_value(const writer *writer, zval *value);
 bool write_date(const writer *writer, zend_object *value);
 bool write_interval(const writer *writer, zend_object *value);
 
+/* Appends bytes as messages show them: one that isn't printable ASCII, `"` or `\` as `\x` and two digits. */
+void append_shown(smart_str *to, bytes shown);
+
 /* Appends all parameters. */
 bool write_params(writer *writer, HashTable *params);
 
@@ -169,6 +173,17 @@ ZEND_NORETURN void refuse_memory(void);
 
 /* Throws the refusal of a query that has a construct in a mode. Returns whether it has one. */
 bool refuse_unportable(bytes query, bool mode);
+
+/* What a refusal says. `name` is that of the place whose value is refused, or null; `has_word` says whether a word of the query has
+ * letters that names don't have. */
+zend_string *message_of(const question *question, int32_t number, const mysql_params_report *report,
+                        const zend_string *name, bool has_word);
+
+/* Whether a name may have a byte. */
+static inline bool is_of_names(uint8_t byte)
+{
+    return (byte >= 'a' && byte <= 'z') || (byte >= 'A' && byte <= 'Z') || (byte >= '0' && byte <= '9') || byte == '_';
+}
 
 /* A BindException with a code and a message, whose fields are null. The caller sets them and throws it. */
 zend_object *new_refusal(zend_long code, const char *format, ...) ZEND_ATTRIBUTE_FORMAT(printf, 2, 3);

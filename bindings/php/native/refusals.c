@@ -10,9 +10,6 @@ zend_class_entry *exception_ce, *construct_ce, *fault_ce, *unportable_ce;
 
 static const uint8_t nothing;
 
-/* The length of a message that needs no other room. */
-enum { USUAL_MESSAGE = 256 };
-
 zend_object *new_refusal(zend_long code, const char *format, ...)
 {
     zval refusal, value;
@@ -85,31 +82,37 @@ static zend_string *name_of_place(const question *asked, size_t place)
     return name;
 }
 
-static bool is_of_names(uint8_t byte)
-{
-    return (byte >= 'a' && byte <= 'z') || (byte >= 'A' && byte <= 'Z') || (byte >= '0' && byte <= '9') || byte == '_';
-}
-
-/* Sets the word that begins at a byte of the query, if a letter outside ASCII is in it. */
-static void set_word(zend_object *refusal, bytes query, size_t begin)
+/* The word that begins at a byte of the query, if a letter outside ASCII is in it, or no bytes. */
+static bytes word_with_other(bytes query, size_t begin)
 {
     size_t end = begin;
     bool has_other = false;
     while (end < query.len && (is_of_names(query.at[end]) || query.at[end] >= 128))
         has_other |= query.at[end++] >= 128;
-    if (has_other)
-        set_bytes(refusal, "word", query.at + begin, end - begin);
+    return has_other ? (bytes){query.at + begin, end - begin} : (bytes){&nothing, 0};
 }
 
-/* Sets the first word after a colon that begins with a letter outside ASCII. */
-static void set_word_without_name(zend_object *refusal, bytes query)
+/* The first word after a colon that begins with a letter outside ASCII, or no bytes. */
+static bytes word_without_name(bytes query)
 {
     for (size_t at = 1; at < query.len; at++) {
-        if (query.at[at - 1] == ':' && query.at[at] >= 128) {
-            set_word(refusal, query, at);
-            return;
-        }
+        if (query.at[at - 1] == ':' && query.at[at] >= 128)
+            return word_with_other(query, at);
     }
+    return (bytes){&nothing, 0};
+}
+
+/* The word of the query that is no name, or no whole one, which may be why the query is refused; or no bytes. */
+static bytes word_of(bytes query, int32_t number, const mysql_params_report *report)
+{
+    size_t at = report->position;
+    if (number == MYSQL_PARAMS_NAMED_FOR_POSITIONAL)
+        return word_without_name(query);
+    if (number == MYSQL_PARAMS_MISSING)
+        return word_with_other(query, at);
+    if (number == MYSQL_PARAMS_NOT_ALONE && at < query.len && query.at[at] == ':')
+        return word_with_other(query, at + 1);
+    return (bytes){&nothing, 0};
 }
 
 /* Sets the name that a report tells, which stands in the query or in the form. */
@@ -117,16 +120,6 @@ static void set_told_name(zend_object *refusal, bytes source, const mysql_params
 {
     if (report->position <= source.len && report->len <= source.len - report->position)
         set_bytes(refusal, "name", source.at + report->position, report->len);
-}
-
-/* Sets the name of a place, if it has one. */
-static void set_name_of_place(zend_object *refusal, const question *question, size_t place)
-{
-    zend_string *name = name_of_place(question, place);
-    if (name == NULL)
-        return;
-    set_bytes(refusal, "name", (const uint8_t *)ZSTR_VAL(name), ZSTR_LEN(name));
-    zend_string_release(name);
 }
 
 /* Sets what a refusal of a form tells. */
@@ -142,28 +135,12 @@ static void set_form_fields(zend_object *refusal, const question *question, int3
 }
 
 /* Sets what a refusal of a list, rows, an exact number, a name or a keyword tells. */
-static void set_fault_fields(zend_object *refusal, const question *question, const mysql_params_report *report)
+static void set_fault_fields(zend_object *refusal, const mysql_params_report *report)
 {
     set_long(refusal, "place", report->place);
     set_case(refusal, "fault", fault_ce, report->byte);
     set_long(refusal, "row", report->position);
     set_long(refusal, "item", report->values);
-    set_name_of_place(refusal, question, report->place);
-}
-
-/* Sets what a refusal of a place of the query tells, which could run into its neighbour or has no value. */
-static void set_place_fields(zend_object *refusal, const question *question, int32_t number,
-                             const mysql_params_report *report)
-{
-    size_t at = report->position;
-    set_long(refusal, "place", report->place);
-    set_long(refusal, "position", at);
-    if (number == MYSQL_PARAMS_MISSING) {
-        set_told_name(refusal, question->query, report);
-        set_word(refusal, question->query, at);
-    } else if (at < question->query.len && question->query.at[at] == ':') {
-        set_word(refusal, question->query, at + 1);
-    }
 }
 
 /* Sets what a refusal tells beside its message. */
@@ -180,10 +157,10 @@ static void set_fields(zend_object *refusal, const question *question, int32_t n
         return;
     case MYSQL_PARAMS_MISSING:
     case MYSQL_PARAMS_NOT_ALONE:
-        set_place_fields(refusal, question, number, report);
-        return;
-    case MYSQL_PARAMS_NAMED_FOR_POSITIONAL:
-        set_word_without_name(refusal, question->query);
+        set_long(refusal, "place", report->place);
+        set_long(refusal, "position", report->position);
+        if (number == MYSQL_PARAMS_MISSING)
+            set_told_name(refusal, question->query, report);
         return;
     case MYSQL_PARAMS_MARK_COUNT:
         set_long(refusal, "marks", report->marks);
@@ -192,7 +169,6 @@ static void set_fields(zend_object *refusal, const question *question, int32_t n
     case MYSQL_PARAMS_FLOAT:
     case MYSQL_PARAMS_UNSTEADY_FRAGMENT:
         set_long(refusal, "place", report->place);
-        set_name_of_place(refusal, question, report->place);
         return;
     case MYSQL_PARAMS_UNPORTABLE:
         set_case(refusal, "construct", construct_ce, report->byte);
@@ -203,21 +179,14 @@ static void set_fields(zend_object *refusal, const question *question, int32_t n
         set_long(refusal, "position", report->position);
         return;
     case MYSQL_PARAMS_FAULT:
-        set_fault_fields(refusal, question, report);
+        set_fault_fields(refusal, report);
     }
 }
 
-/* The message of a number, by the function of C. */
-static zend_string *message_of(const question *question, int32_t number, const mysql_params_report *report)
+/* Whether a refusal is of what is given for a place, whose name is told then. */
+static bool is_of_value(int32_t number)
 {
-    char usual[USUAL_MESSAGE];
-    bytes source = number == MYSQL_PARAMS_FORM_REPEATED ? question->form : question->query;
-    size_t len = mysql_params_message_wide(number, report, source.at, source.len, usual, sizeof usual);
-    if (len < sizeof usual)
-        return zend_string_init(usual, len, 0);
-    zend_string *message = zend_string_alloc(len, 0);
-    mysql_params_message_wide(number, report, source.at, source.len, ZSTR_VAL(message), len + 1);
-    return message;
+    return number == MYSQL_PARAMS_FLOAT || number == MYSQL_PARAMS_FAULT || number == MYSQL_PARAMS_UNSTEADY_FRAGMENT;
 }
 
 void refuse(const question *question, int32_t number, const mysql_params_report *report, zend_long row)
@@ -228,11 +197,19 @@ void refuse(const question *question, int32_t number, const mysql_params_report 
         zend_throw_error(NULL, "Unknown answer %d of the archive", (int)number);
         return;
     }
-    zend_string *message = message_of(question, number, report);
+    bytes word = word_of(question->query, number, report);
+    zend_string *name = is_of_value(number) ? name_of_place(question, report->place) : NULL;
+    zend_string *message = message_of(question, number, report, name, word.len > 0);
     zend_object *refusal = row < 0 ? new_refusal(number, "%s", ZSTR_VAL(message))
                                    : new_refusal(number, "row " ZEND_LONG_FMT ": %s", row, ZSTR_VAL(message));
     zend_string_release(message);
     set_fields(refusal, question, number, report);
+    if (word.len > 0)
+        set_bytes(refusal, "word", word.at, word.len);
+    if (name != NULL) {
+        set_bytes(refusal, "name", (const uint8_t *)ZSTR_VAL(name), ZSTR_LEN(name));
+        zend_string_release(name);
+    }
     if (row >= 0)
         set_long(refusal, "row", (size_t)row);
     throw(refusal);

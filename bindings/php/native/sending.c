@@ -193,14 +193,15 @@ static bool refuse_silence(void)
 }
 
 /* Refuses a character set other than utf8mb4. */
-static bool judge_charset(const char *variable, zval *cell)
+static bool judge_charset(const connection *connection, const char *variable, zval *cell)
 {
     zend_string *value = zval_get_string(cell);
     bool is_right = zend_string_equals_literal(value, "utf8mb4");
     if (!is_right)
         throw_session(new_refusal(REFUSED_SESSION,
-                                  "The connection's %s is %s, and has to be utf8mb4: connect with charset=utf8mb4",
-                                  variable, ZSTR_VAL(value)),
+                                  "The connection's %s is %s, and has to be utf8mb4: %s", variable, ZSTR_VAL(value),
+                                  connection->driver == DRIVER_PDO ? "connect with charset=utf8mb4"
+                                                                   : "call set_charset('utf8mb4')"),
                       variable);
     zend_string_release(value);
     return is_right;
@@ -222,7 +223,7 @@ static bool has_word(const zend_string *list, const char *word)
 }
 
 /* Takes the cells of the answer. */
-static bool take_answer(HashTable *row, told *told)
+static bool take_answer(const connection *connection, HashTable *row, told *told)
 {
     zval *cells[4];
     for (zend_ulong i = 0; i < 4; i++) {
@@ -230,7 +231,8 @@ static bool take_answer(HashTable *row, told *told)
         if (cells[i] == NULL)
             return refuse_silence();
     }
-    if (!judge_charset("character_set_client", cells[1]) || !judge_charset("character_set_connection", cells[2]))
+    if (!judge_charset(connection, "character_set_client", cells[1]) ||
+        !judge_charset(connection, "character_set_connection", cells[2]))
         return false;
     zend_string *sql_mode = zval_get_string(cells[0]);
     told->mode = has_word(sql_mode, "NO_BACKSLASH_ESCAPES");
@@ -296,7 +298,7 @@ static bool take_row(const connection *connection, zval *result, told *told)
     bool is_taken = call(Z_OBJ_P(result), is_pdo ? "closeCursor" : "free", &returned, NULL, NULL);
     zval_ptr_dtor(&returned);
     if (is_taken)
-        is_taken = Z_TYPE(row) == IS_ARRAY ? take_answer(Z_ARRVAL(row), told) : refuse_silence();
+        is_taken = Z_TYPE(row) == IS_ARRAY ? take_answer(connection, Z_ARRVAL(row), told) : refuse_silence();
     zval_ptr_dtor(&row);
     return is_taken;
 }

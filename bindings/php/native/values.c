@@ -9,14 +9,12 @@
 
 #include <math.h>
 
-/* Appends a name as messages show it, from a byte on: one that isn't printable ASCII, `"` or `\` as `\x` and two digits.
- *
- * Texts are made only by smart_str_append_printf, a function of PHP. What the header has inline calls functions that only
- * PHP's later patches have, and then the module isn't loaded by an earlier one. */
-static void append_shown(smart_str *to, const zend_string *name, size_t begin)
+/* Texts are made only by smart_str_append_printf, a function of PHP. What the header has inline calls functions that only PHP's
+ * later patches have, and then the module isn't loaded by an earlier one. */
+void append_shown(smart_str *to, bytes shown)
 {
-    for (size_t i = begin; i < ZSTR_LEN(name); i++) {
-        uint8_t byte = (uint8_t)ZSTR_VAL(name)[i];
+    for (size_t i = 0; i < shown.len; i++) {
+        uint8_t byte = shown.at[i];
         bool is_shown = byte >= 32 && byte <= 126 && byte != '"' && byte != '\\';
         smart_str_append_printf(to, is_shown ? "%c" : "\\x%02x", byte);
     }
@@ -31,8 +29,10 @@ static zend_string *place_of(const writer *writer)
     if (writer->name == NULL) {
         smart_str_append_printf(&place, "the value for place " ZEND_LONG_FMT, writer->number);
     } else {
+        bytes name = bytes_of(writer->name);
+        bool has_colon = name.len > 0 && *name.at == ':';
         smart_str_append_printf(&place, "the value of `:");
-        append_shown(&place, writer->name, ZSTR_LEN(writer->name) > 0 && ZSTR_VAL(writer->name)[0] == ':');
+        append_shown(&place, (bytes){name.at + has_colon, name.len - has_colon});
         smart_str_append_printf(&place, "`");
     }
     return smart_str_extract(&place);
@@ -262,7 +262,7 @@ static bool refuse_assigned(const writer *writer, HashTable *names, const zval *
     zval *name;
     ZEND_HASH_FOREACH_VAL(names, name) {
         smart_str_append_printf(&column, column.s == NULL ? "`" : ".`");
-        append_shown(&column, Z_STR_P(name), 0);
+        append_shown(&column, bytes_of(Z_STR_P(name)));
         smart_str_append_printf(&column, "`");
     } ZEND_HASH_FOREACH_END();
     smart_str_0(&column);

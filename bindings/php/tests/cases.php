@@ -191,7 +191,57 @@ final class Case_
         same(BindException::class, get_class($fault), $fault->getMessage());
         same(constant(BindException::class . '::' . $this->refusal), $fault->getCode());
         same($this->wanted(), fields($fault));
-        same($this->message_of_c() ?? $fault->getMessage(), $fault->getMessage());
+        same($this->message_told() ?? $fault->getMessage(), $fault->getMessage());
+    }
+
+    /** Returns the message, or null if the case has none and it is C's. */
+    public function message_told(): ?string
+    {
+        ['place' => $place, 'position' => $position, 'marks' => $marks, 'values' => $values] = $this->fields + array_fill_keys(['place', 'position', 'marks', 'values'], 0);
+        if (isset($this->fields['word'])) {
+            return $this->message_of_c();
+        }
+        $for = isset($this->fields['of']) ? "`:{$this->fields['of']}`" : "place $place";
+        $value = isset($this->fields['of']) ? "The value of $for" : "The value for $for";
+        return match ($this->refusal) {
+            'NAMED_FOR_POSITIONAL' => 'The values have names, and the query has no `:name` outside of strings and comments',
+            'POSITIONAL_FOR_NAMED' => "The query has names: give the values by name, as ['id' => 42]",
+            'MARK_COUNT' => "The query has $marks of `?` outside of strings and comments, and $values values are given",
+            'NOT_ALONE' => $this->touching($position),
+            'FLOAT' => "$value is a float that isn't written: give null for NaN and infinities, else a text",
+            'FAULT' => $this->faulty($for, $value, $position, $values),
+            'UNSTEADY_FRAGMENT' => "$value has a name with a backslash or a letter outside ASCII: bind takes it",
+            default => $this->message_of_c(),
+        };
+    }
+
+    /** Returns what is said of a place of the query that touches its neighbour. */
+    private function touching(int $position): string
+    {
+        $before = $position > 0 ? $this->query[$position - 1] : '';
+        preg_match('/\G(\?|:[A-Za-z0-9_]*)(.?)/s', $this->query, $found, 0, $position);
+        $touched = $before === '' || str_contains("\t\n\v\f\r (,=<>+-*/%&|^~", $before) ? $found[2] : $before;
+        $shown = preg_replace_callback('/[^ -~]|["\\\\]/s', fn ($byte) => '\\x' . bin2hex($byte[0]), $touched);
+        $to_do = $touched === '.' ? 'for a name with a point write one place, and give an Identifier of two names' : 'put a space between';
+        return "`$found[1]` at byte $position touches `$shown`: $to_do";
+    }
+
+    /** Returns what is said of a list, rows, an exact number, a name or a keyword. */
+    private function faulty(string $for, string $value, int $row, int $item): string
+    {
+        $digits = 'is no exact number: at most one `-`, then at most 65 digits, with at most one point between';
+        return match (Fault::from($this->fields['byte'])) {
+            Fault::Empty => "The list for $for is empty",
+            Fault::EmptyRow => "Row $row for $for is empty",
+            Fault::RowLength => "Row $row for $for is not as long as the first",
+            Fault::Number => ($row + $item === 0 ? "The Decimal for $for" : "Item $item of row $row for $for") . " $digits",
+            Fault::EmptyName => "Name $item for $for is empty",
+            Fault::ZeroByte => "Name $item for $for has a byte 0",
+            Fault::LongName => "Name $item for $for has more than 64 characters",
+            Fault::TrailingSpace => "Name $item for $for ends in a space",
+            Fault::Backslash => "Name $item for $for has a backslash before a backquote or at its end",
+            Fault::Keyword => "$value is none of the keywords that the class Keyword lists: for another word choose among queries",
+        };
     }
 
     /** Returns the message of C, or null if the case has none: it ends before the name of a place, which is a field. */
@@ -285,7 +335,7 @@ function judge_rows(Case_ $case, callable $call): void
     unset($fields['texts'], $fields['row']);
     same($case->wanted(), $fields);
     same(constant(BindException::class . '::' . $case->refusal), $fault->getCode());
-    $message = $case->message_of_c();
+    $message = $case->message_told();
     same($message === null ? $fault->getMessage() : "row $fault->row: $message", $fault->getMessage());
 }
 

@@ -83,9 +83,9 @@ class PlayedRow extends \PDOStatement
 }
 
 /** Sends a query over a played connection, and returns the text that it got. */
-function sent(Played $connection, string $query = 'SELECT :a', array $params = ['a' => '\\'], bool $always_ask = false): string
+function sent(Played $connection, string $query = 'SELECT :a', array $params = ['a' => '\\'], bool $alwaysAsk = false): string
 {
-    query($connection, $query, $params, $always_ask);
+    query($connection, $query, $params, $alwaysAsk);
     return end($connection->sent);
 }
 /** Returns a PDO of the server. */

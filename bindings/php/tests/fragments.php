@@ -30,7 +30,7 @@ test('exact numbers', function () {
     literal('1, 0.10', [1, new Decimal('0.10')]);
     same(['9.99', '9.99'], [(string) new Decimal('9.99'), (new Decimal('9.99'))->digits]);
     foreach (['', '1e3', '1.2.3', ' 1', '+1', '0x10', "1\0", str_repeat('9', 66), '1; DROP TABLE t'] as $digits) {
-        $message = "Fragment at place 0 can't be written: item 0 of row 0 is no exact number";
+        $message = 'The Decimal for `:a` is no exact number: at most one `-`, then at most 65 digits, with at most one point between';
         $refusal = refused(BindException::class, $message, fn () => bind('SELECT :a', ['a' => new Decimal($digits)]));
         same(['fault' => Fault::Number, 'item' => 0, 'name' => 'a', 'place' => 0, 'row' => 0], fields($refusal));
     }
@@ -65,15 +65,14 @@ test('lists and rows', function () {
 
 test('lists and rows that cannot be written', function () {
     foreach ([
-        [[], Fault::Empty, 0, 'it is empty'],
-        [[[]], Fault::EmptyRow, 0, 'row 0 is empty'],
-        [[[1, 2], [3]], Fault::RowLength, 1, 'row 1 is not as long as the first'],
-    ] as [$value, $fault, $row, $why]) {
-        $message = "Fragment at place 0 can't be written: $why";
-        $refusal = refused(BindException::class, $message, fn () => bind('SELECT :a', ['a' => $value]));
+        [[], Fault::Empty, 0, 'The list for % is empty'],
+        [[[]], Fault::EmptyRow, 0, 'Row 0 for % is empty'],
+        [[[1, 2], [3]], Fault::RowLength, 1, 'Row 1 for % is not as long as the first'],
+    ] as [$value, $fault, $row, $message]) {
+        $refusal = refused(BindException::class, str_replace('%', '`:a`', $message), fn () => bind('SELECT :a', ['a' => $value]));
         same(BindException::FAULT, $refusal->getCode());
         same(['fault' => $fault, 'item' => 0, 'name' => 'a', 'place' => 0, 'row' => $row], fields($refusal));
-        refused(BindException::class, $message, fn () => bind_anywhere('SELECT ?', [$value]));
+        refused(BindException::class, str_replace('%', 'place 0', $message), fn () => bind_anywhere('SELECT ?', [$value]));
     }
     $table = [
         [['a' => 1], 'is an array with keys, which is no list: for SET give new Assignments(..) of it, else give array_values(..) of it'],
@@ -175,8 +174,8 @@ test('assignments that cannot be written', function () {
         $fault = thrown(fn () => bind('SET ?', [new Assignments(['a' => $value])]));
         holds($fault instanceof \TypeError && str_starts_with($fault->getMessage(), 'the value for place 0 is of type ' . get_class($value)));
     }
-    refused(BindException::class, 'Float at place 0', fn () => bind('SET ?', [new Assignments(['a' => NAN])]));
-    $empty = refused(BindException::class, "Fragment at place 0 can't be written: it is empty", fn () => bind('SET :set', ['set' => new Assignments([])]));
+    refused(BindException::class, "The value for place 0 is a float that isn't written: give null for NaN and infinities, else a text", fn () => bind('SET ?', [new Assignments(['a' => NAN])]));
+    $empty = refused(BindException::class, 'The list for `:set` is empty', fn () => bind('SET :set', ['set' => new Assignments([])]));
     same(['fault' => Fault::Empty, 'item' => 0, 'name' => 'set', 'place' => 0, 'row' => 0], fields($empty));
     $refusal = thrown(fn () => bind('SET ?', [new Assignments([[new Identifier('t', 'a'), 1], ["b\0", 2]])]));
     same([Fault::ZeroByte, 2], [$refusal->fault, $refusal->item]);
@@ -209,7 +208,7 @@ test('keywords', function () {
         $message = 'MysqlParams\Keyword::__construct(): Argument #1 ($word) must be one of the keywords ' . $told . ', and it has ' . strlen($word) . ' bytes of another text';
         refused(\ValueError::class, $message, fn () => new Keyword($word, $among));
     }
-    $message = "Fragment at place 0 can't be written: it is none of the keywords in capitals that mysql_params.h lists";
+    $message = 'The value for place 0 is none of the keywords that the class Keyword lists: for another word choose among queries';
     refused(BindException::class, $message, fn () => bind('SELECT ?', [new Keyword('BETWEEN', ['BETWEEN'])]));
     same(Fault::Keyword, thrown(fn () => bind('SELECT ?', [new Keyword("DESC\0", ["DESC\0"])]))->fault);
 });

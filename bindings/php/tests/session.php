@@ -20,10 +20,11 @@ test('a connection whose driver has no idea of the mode is asked each time', fun
     $connection->session[0] = 'NOT_NO_BACKSLASH_ESCAPES,NO_BACKSLASH_ESCAPE';
     same("SELECT '\\\\'", sent($connection));
     same(3, $connection->asked);
-    sent($connection, always_ask: true);
+    query($connection, 'SELECT 1', alwaysAsk: true);
+    execute($connection, 'SELECT 1', alwaysAsk: true);
     ask_again($connection);
     sent($connection);
-    same(5, $connection->asked);
+    same(6, $connection->asked);
     ask_again(new Played());
 });
 
@@ -60,7 +61,7 @@ test('a connection is asked once', function () {
         same("SELECT '\\\\'", sent($connection));
     }
     same(1, $connection->asked);
-    sent($connection, always_ask: true);
+    sent($connection, alwaysAsk: true);
     same(2, $connection->asked);
     ask_again($connection);
     sent($connection);

@@ -4,9 +4,9 @@
 
 namespace MysqlParams\Tests;
 
-use MysqlParams\{Assignments, BindException, Decimal, Identifier, Keyword, Names, Template, Unportable};
+use MysqlParams\{Assignments, BindException, Construct, Decimal, Identifier, Keyword, Names, Template, Unportable};
 
-use function MysqlParams\{bind, bind_anywhere, bind_in_both_modes, bind_rows, first_unportable, names};
+use function MysqlParams\{bind, bind_anywhere, bind_form, bind_in_both_modes, bind_rows, first_unportable, first_unportable_in_client, names};
 
 require __DIR__ . '/harness.php';
 
@@ -92,10 +92,10 @@ test('floats', function () {
     }
     same('SELECT 0.25e0', bind_anywhere('SELECT ?', [0.25]));
     foreach ([NAN, INF, -INF] as $number) {
-        $refusal = refused(BindException::class, 'Float at place 1', fn () => bind('SELECT :a, :b', ['a' => 1, 'b' => $number]));
+        $refusal = refused(BindException::class, "The value of `:b` is a float that isn't written: give null for NaN and infinities, else a text", fn () => bind('SELECT :a, :b', ['a' => 1, 'b' => $number]));
         same([BindException::FLOAT, ['name' => 'b', 'place' => 1]], [$refusal->getCode(), fields($refusal)]);
-        refused(BindException::class, 'Float at place 0', fn () => bind('SELECT ?', [[1, $number]]));
-        refused(BindException::class, 'Float at place 0', fn () => bind_anywhere('SELECT ?', [$number]));
+        refused(BindException::class, "The value for place 0 is a float that isn't written: give null for NaN and infinities, else a text", fn () => bind('SELECT ?', [[1, $number]]));
+        refused(BindException::class, "The value for place 0 is a float that isn't written: give null for NaN and infinities, else a text", fn () => bind_anywhere('SELECT ?', [$number]));
     }
     // Without a place for it there is no refusal.
     same('SELECT 1', bind('SELECT :b', ['a' => NAN, 'b' => 1]));
@@ -204,7 +204,7 @@ test('calls that take values alone', function () {
     refused(\TypeError::class, "row 0: the value for place 0 $assignments", fn () => bind_rows('SET ?', [[new Assignments(['a' => 1])]]));
     refused(\TypeError::class, "the value for place 0 $array", fn () => bind_in_both_modes('SELECT ?', [[new Identifier('t')]]));
     refused(\TypeError::class, "the value for place 0 $array", fn () => bind_in_both_modes('SELECT ?', [['a' => 1]]));
-    refused(BindException::class, 'Float at place 0', fn () => bind_in_both_modes('SELECT ?', [0.5]));
+    refused(BindException::class, "The value for place 0 is a float that isn't written: give null for NaN and infinities, else a text", fn () => bind_in_both_modes('SELECT ?', [0.5]));
 });
 
 test('parameters by name', function () {
@@ -236,7 +236,7 @@ test('the mode is true or false', function () {
     foreach ([1, 0, null, '', 'STRICT_TRANS_TABLES', []] as $mode) {
         $type = ['integer' => 'int', 'NULL' => 'null'][gettype($mode)] ?? gettype($mode);
         $message = "must be true or false, $type given: whether sql_mode has NO_BACKSLASH_ESCAPES";
-        $argument = fn ($number, $call) => refused(\TypeError::class, "MysqlParams\\$call(): Argument #$number (\$no_backslash_escape) $message", match ($call) {
+        $argument = fn ($number, $call) => refused(\TypeError::class, "MysqlParams\\$call(): Argument #$number (\$noBackslashEscape) $message", match ($call) {
             'bind' => fn () => bind('SELECT 1', [], $mode),
             'bind_rows' => fn () => bind_rows('SELECT 1', [], $mode),
             'names' => fn () => names('SELECT 1', $mode),
@@ -264,6 +264,44 @@ test('a hundred thousand values', function () {
     same(array_map(fn ($number) => "VALUES ($number, 'it\\'s $number')", $numbers), bind_rows('VALUES (?, ?)', $rows));
 });
 
+test('the mode has one name everywhere', function () {
+    same("SELECT '\\'", bind('SELECT ?', ['\\'], noBackslashEscape: true));
+    same(["SELECT '\\'"], bind_rows('SELECT ?', [['\\']], noBackslashEscape: true));
+    same("SELECT '\\'", (new Template('SELECT ?', noBackslashEscape: true))->bind(['\\']));
+    same("SELECT '\\', NULL", bind_form("SELECT '\\', ?", "\0\x06\0", noBackslashEscape: true));
+    same(['a'], names("SELECT '\\', :a", noBackslashEscape: true)->names);
+    same(Construct::Bracket, first_unportable("SELECT 'a\\', [1], '", noBackslashEscape: true)->construct);
+    same(Construct::Bracket, first_unportable_in_client("SELECT 'a\\', [1], '", noBackslashEscape: true)->construct);
+});
+
+test('a message says what a place touches', function () {
+    foreach ([
+        ['SELECT 1?', '`?` at byte 8 touches `1`: put a space between'],
+        ['SELECT ?a', '`?` at byte 7 touches `a`: put a space between'],
+        ["SELECT 'x'?", "`?` at byte 10 touches `'`: put a space between"],
+        ['SELECT "x"?', '`?` at byte 10 touches `\x22`: put a space between'],
+        ["SELECT \u{e9}?", '`?` at byte 9 touches `\xa9`: put a space between'],
+        ['SELECT t.?', '`?` at byte 9 touches `.`: for a name with a point write one place, and give an Identifier of two names'],
+        ['SELECT ?.a', '`?` at byte 7 touches `.`: for a name with a point write one place, and give an Identifier of two names'],
+        ['SELECT ??', '`?` at byte 7 touches `?`: put a space between'],
+    ] as [$query, $message]) {
+        $refusal = refused(BindException::class, $message, fn () => bind($query, $query === 'SELECT ??' ? [1, 2] : [1]));
+        same(BindException::NOT_ALONE, $refusal->getCode());
+    }
+    refused(BindException::class, '`:ab` at byte 8 touches `:`: put a space between', fn () => bind('SELECT ::ab', ['ab' => 1]));
+    refused(BindException::class, '`:ab` at byte 7 touches `:`: put a space between', fn () => bind('SELECT :ab:c', ['ab' => 1, 'c' => 2]));
+});
+
+test('messages name the place, and what to do', function () {
+    refused(BindException::class, 'The list for `:ids` is empty', fn () => bind('WHERE id IN (:ids)', ['ids' => []]));
+    refused(BindException::class, 'The list for place 1 is empty', fn () => bind('WHERE a = ? AND id IN (?)', [1, []]));
+    refused(BindException::class, 'The values have names, and the query has no `:name` outside of strings and comments', fn () => bind("LIKE '%:l%'", ['l' => 1]));
+    refused(BindException::class, 'The query has 0 of `?` outside of strings and comments, and 1 values are given', fn () => bind("LIKE '%?%'", [1]));
+    refused(BindException::class, "The query has names: give the values by name, as ['id' => 42]", fn () => bind('SELECT :a', [1]));
+    refused(BindException::class, 'Item 1 of row 2 for `:rows` is no exact number: at most one `-`, then at most 65 digits, with at most one point between', fn () => bind('VALUES :rows', ['rows' => [[1, 2], [3, 4], [5, new Decimal('x')]]]));
+    refused(BindException::class, 'The value of `:c` has a name with a backslash or a letter outside ASCII: bind takes it', fn () => bind_anywhere('SELECT :c', ['c' => new Identifier("\u{e9}")]));
+});
+
 test('texts that are much longer than their form', function () {
     $value = str_repeat("\xFF", 1000);
     $query = 'SELECT ' . implode(', ', array_fill(0, 200, ':a'));
@@ -275,20 +313,20 @@ test('texts that are much longer than their form', function () {
 test('rows with floats among them', function () {
     $texts = bind_rows('SELECT ?', [[1], [0.5], ['a'], [1.5], [2]]);
     same(['SELECT 1', 'SELECT 0.5e0', "SELECT 'a'", 'SELECT 1.5e0', 'SELECT 2'], $texts);
-    $refusal = refused(BindException::class, 'row 2: Float at place 0', fn () => bind_rows('SELECT ?', [[1], [0.5], [NAN]]));
+    $refusal = refused(BindException::class, "row 2: The value for place 0 is a float that isn't written: give null for NaN and infinities, else a text", fn () => bind_rows('SELECT ?', [[1], [0.5], [NAN]]));
     same(['place' => 0, 'row' => 2, 'texts' => ['SELECT 1', 'SELECT 0.5e0']], fields($refusal));
 });
 
 test('the first row that is refused is told', function () {
     // A row that waits is refused before the type of a later one, and before what the iterator throws.
-    $refusal = refused(BindException::class, 'row 1: Query has 1 marks and 2 values', fn () => bind_rows('SELECT ?', [[1], [1, 2], [STDIN]]));
+    $refusal = refused(BindException::class, 'row 1: The query has 1 of `?` outside of strings and comments, and 2 values are given', fn () => bind_rows('SELECT ?', [[1], [1, 2], [STDIN]]));
     same(['SELECT 1'], $refusal->texts());
     $given = function () {
         yield [1];
         yield [1, 2];
         throw new \DomainException('mine');
     };
-    refused(BindException::class, 'row 1: Query has 1 marks and 2 values', fn () => bind_rows('SELECT ?', $given()));
+    refused(BindException::class, 'row 1: The query has 1 of `?` outside of strings and comments, and 2 values are given', fn () => bind_rows('SELECT ?', $given()));
     $given = function () {
         yield [1];
         throw new \DomainException('mine');
