@@ -28,6 +28,7 @@ class Connection:
         self.sent = []
         self.server_status = 512 if "NO_BACKSLASH_ESCAPES" in sql_mode else 2
         self.charset = client
+        self.encoding = "utf8"
         self.thread = 1
         self._sock = object()
 
@@ -66,6 +67,8 @@ MySQLdb.__module__ = "MySQLdb.connections"
 
 class Connector(Connection):
     """A connection as of MySQL Connector, whose cursors have a weak reference to it."""
+
+    python_charset = "utf8"
 
     def cursor(self):
         return Cursor(weakref.proxy(self))
@@ -324,10 +327,81 @@ class Test(unittest.TestCase):
         with self.assertRaises(UnicodeDecodeError):
             exec_driver_sql(pooled, b"SELECT '\xff'")
 
+    def test_drivers_that_make_other_bytes(self):
+        # Each encoding with values that its bytes hold a backslash of, or that it writes in another way than UTF-8.
+        for encoding, values in (
+            ("gbk", ("\u8aa0' OR 1=1 -- ", "\u00e9")),
+            ("big5", ("\u529f' OR 1=1 -- ",)),
+            ("cp932", ("\u8868' OR 1=1 -- ",)),
+            ("sjis", ("\u8868' OR 1=1 -- ", "\u00a5' OR 1=1 -- ")),
+            ("gb18030", ("\u8aa0' OR 1=1 -- ", "\U0001f600")),
+            ("cp1252", ("\u00e9",)),
+            ("shift_jis_2004", ("' OR 1=1 -- ",)),
+            ("utf7", ("' OR 1=1 -- ",)),
+            ("utf16", ("a",)),
+            ("utf-8-sig", ("a",)),
+            ("no codec", ("a",)),
+            ("no\0codec", ("a",)),
+            ("hex", ("a",)),
+            (None, ("\u00e9", "it's")),
+            (7, ("\u00e9", "it's")),
+        ):
+            for kind in (PyMySQL, MySQLdb, Connector):
+                own = kind()
+                own.encoding = own.python_charset = encoding
+                for value in values:
+                    with self.subTest(encoding=encoding, kind=kind.__name__, value=value):
+                        pooled = Pooled(own)
+                        with self.assertRaises(mysql_params.EncodingError) as raised:
+                            exec_driver_sql(pooled, "SELECT :a", {"a": value})
+                        self.assertIsInstance(raised.exception, mysql_params.SessionError)
+                        self.assertEqual(pooled.calls, [])
+                        if type(encoding) is str:
+                            to_do = "and has to be UTF-8: connect with charset='utf8mb4'"
+                            self.assertEqual(str(raised.exception), f"The driver's encoding is {encoding}, {to_do}")
+
+    def test_drivers_that_make_the_same_bytes(self):
+        for encoding, value in (
+            ("utf8", "\u8aa0' OR 1=1 -- "),
+            ("UTF-8", "\U0001f600"),
+            ("gbk", "it's \\ ~"),
+            ("sjis", "it's \\ ~"),
+            ("ascii", "it's"),
+            (None, "its ~"),
+        ):
+            for kind in (PyMySQL, MySQLdb, Connector):
+                own = kind()
+                own.encoding = own.python_charset = encoding
+                pooled = Pooled(own)
+                exec_driver_sql(pooled, "SELECT :a", {"a": value})
+                ((text,), _), = pooled.calls
+                self.assertEqual(text, mysql_params.bind("SELECT :a", {"a": value}).decode())
+
+    def test_drivers_whose_encoding_is_unknown(self):
+        pooled = Pooled(Connection())
+        for value in ("\u00e9", "it's"):
+            with self.assertRaises(mysql_params.EncodingError) as raised:
+                exec_driver_sql(pooled, "SELECT :a", {"a": value})
+            to_do = "give execute a cursor of the driver, which gets bytes"
+            self.assertEqual(str(raised.exception), f"The driver's encoding isn't known: {to_do}")
+            self.send(Connection(), params={"a": value})
+        self.assertEqual(exec_driver_sql(pooled, "SELECT :a", {"a": "its"}), "result")
+        # MySQL Connector may take bytes for a str too. The others send them as they are.
+        for kind in (PyMySQL, MySQLdb, Connector):
+            connection = kind()
+            connection.encoding = connection.python_charset = "gbk"
+            if kind is not Connector:
+                self.assertEqual(self.send(connection, params={"a": "\u00e9"}), "SELECT '\u00e9'".encode())
+                continue
+            with self.assertRaises(mysql_params.EncodingError):
+                self.send(connection, params={"a": "\u00e9"})
+            self.assertEqual(connection.sent, [])
+
     def test_errors_are_pickled(self):
         for error in (
             mysql_params.UnportableError(3, Construct.BRACKET),
             mysql_params.SessionError("character_set_client", "gbk"),
+            mysql_params.EncodingError("encoding", "gbk"),
             mysql_params.PacketError(5, 4),
             mysql_params.DelimiterError(7),
         ):

@@ -31,7 +31,7 @@ from typing import NamedTuple, NoReturn, Optional, Union
 from . import _archive, _form, _native
 from ._fragments import KEYWORDS, Assignments, Identifier, Keyword
 from ._many import execute_rows, executemany
-from ._sending import DelimiterError, PacketError, SessionError, ask_again, exec_driver_sql, execute
+from ._sending import DelimiterError, EncodingError, PacketError, SessionError, ask_again, exec_driver_sql, execute
 from ._template import Template
 from ._values import decimal_text, register
 from .errors import (
@@ -66,6 +66,7 @@ __all__ = [
     "BackslashError",
     "Construct",
     "DelimiterError",
+    "EncodingError",
     "Error",
     "Fault",
     "FloatError",

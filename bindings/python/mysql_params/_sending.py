@@ -9,6 +9,7 @@ from collections.abc import Mapping
 from typing import Any, NamedTuple, Optional, Union
 
 from . import _archive, _form, _native
+from ._drivers import encoding_of, makers, may_rewrite
 from .errors import Error, UnportableError
 from .portable import Unportable
 
@@ -40,6 +41,18 @@ class SessionError(Error):
         return f"The connection's {self.variable} is {self.value}, {to_do}"
 
 
+class EncodingError(SessionError):
+    """The driver may send other bytes than the text's: its own encoding, `value`, isn't UTF-8, or isn't known (``None``).
+
+    ``SET NAMES`` tells the server, and not the driver. `variable` is ``encoding``.
+    """
+
+    def __str__(self) -> str:
+        if self.value == str(None):
+            return "The driver's encoding isn't known: give execute a cursor of the driver, which gets bytes"
+        return f"The driver's {self.variable} is {self.value}, and has to be UTF-8: connect with charset='utf8mb4'"
+
+
 class PacketError(Error):
     """The text has `length` bytes, and the server takes `most`: it would end the connection."""
 
@@ -65,18 +78,28 @@ class DelimiterError(Error):
 
 
 class Told(NamedTuple):
-    """What a connection answered: its mode, and the length of the longest text; and whether its driver cuts texts."""
+    """What a connection answered: its mode, and the length of the longest text; and what its driver does to a text."""
 
     no_backslash_escape: bool
     most: int
     is_cut: bool
+    """Whether the driver cuts texts, as MySQL Connector does. It may take bytes for a str as well."""
+    encoding: Optional[str]
+    """The encoding by which the driver makes bytes of a str, if it is known."""
 
     def refusal(self, text: bytes) -> Optional[Error]:
         """Return why a text can't be sent over the connection, or None."""
         if len(text) > self.most:
             return PacketError(len(text), self.most)
-        found = _DELIMITER.search(text) if self.is_cut else None
-        return None if found is None else DelimiterError(found.start())
+        if not self.is_cut:
+            return None
+        found = _DELIMITER.search(text)
+        return _rewritten(self.encoding, text) if found is None else DelimiterError(found.start())
+
+
+def _rewritten(encoding: Optional[str], text: bytes) -> Optional[EncodingError]:
+    """Return why a text can't be given to a driver of an encoding as a str, or None."""
+    return EncodingError("encoding", str(encoding)) if may_rewrite(encoding, text) else None
 
 
 _Signs = tuple[bool, tuple[object, ...]]
@@ -90,24 +113,16 @@ class _Kept(NamedTuple):
     told: Told
 
 
-def _makers(connection: Any) -> set[str]:
-    """Return the packages that a driver's connection is of.
-
-    The connection of MySQL Connector's cursor is a weak reference, whose `__class__` alone is the connection's.
-    """
-    return {kind.__module__.partition(".")[0] for kind in connection.__class__.__mro__}
-
-
 def _signs(connection: Any) -> Optional[_Signs]:
     """Return a driver's own idea of the mode, and what changes if the driver connects anew; None of another driver.
 
     Nothing is sent. The mode is what the server said beside its last answer.
     """
-    makers = _makers(connection)
-    if "pymysql" in makers:
+    found = makers(connection)
+    if "pymysql" in found:
         mode = bool(connection.server_status & _NO_BACKSLASH_ESCAPES)
         return mode, (connection._sock, connection.thread_id(), connection.charset)
-    if "MySQLdb" in makers:
+    if "MySQLdb" in found:
         mode = len(connection.escape_string(b"\\")) == 1
         return mode, (connection.thread_id(), connection.character_set_name())
     return None
@@ -141,7 +156,7 @@ def _ask(connection: Any) -> Told:
         if value != "utf8mb4":
             raise SessionError(variable, value)
     mode = "NO_BACKSLASH_ESCAPES" in sql_mode.upper().split(",")
-    return Told(mode, int(most) - _BESIDE_TEXT, "mysql" in _makers(connection))
+    return Told(mode, int(most) - _BESIDE_TEXT, "mysql" in makers(connection), encoding_of(connection))
 
 
 def _told(connection: Any, always_ask: bool) -> Told:
@@ -244,8 +259,8 @@ def execute(
     stays one.
 
     Raise as bind; UnportableError; SessionError for a connection that isn't utf8mb4; PacketError for a text that is too
-    long; DelimiterError for one that MySQL Connector would cut; and what the driver raises, whose message may show the
-    text. After a ``SET`` of the mode or a character set call ask_again.
+    long; DelimiterError for one that MySQL Connector would cut, EncodingError for one that it may rewrite; and what the
+    driver raises, whose message may show the text. After a ``SET`` of the mode or a character set call ask_again.
     """
     text = _bound(connection_of(cursor), _form.bytes_of(query), params, zone, always_ask)
     return cursor.execute(text)
@@ -267,11 +282,20 @@ def exec_driver_sql(
 
     It is `exec_driver_sql` of SQLAlchemy without parameters and with `no_parameters`: else a ``%`` in a value would be
     read as a format. A query of bytes is UTF-8. Everything else is as of execute.
+
+    SQLAlchemy gives the driver a str, which that makes bytes of in its own encoding. Raise EncodingError if these would
+    be others than the text's, as after ``SET NAMES utf8mb4`` over ``?charset=gbk``. Of a driver whose encoding isn't
+    known only a text of ASCII without a backslash is sent.
     """
     pooled = getattr(connection, "connection", None)
     if pooled is None or callable(pooled):
         to_do = "take engine.connect() or session.connection()"
         raise TypeError(f"SQLAlchemy's Connection is wanted, and not {type(connection).__name__}: {to_do}")
     own = getattr(pooled, "dbapi_connection", None)
-    text = _bound(pooled.connection if own is None else own, _form.bytes_of(query), params, zone, always_ask)
-    return connection.exec_driver_sql(text.decode(), execution_options={"no_parameters": True})
+    own = pooled.connection if own is None else own
+    text = _bound(own, _form.bytes_of(query), params, zone, always_ask)
+    sent = text.decode()
+    refusal = _rewritten(encoding_of(own), text)
+    if refusal is not None:
+        raise refusal
+    return connection.exec_driver_sql(sent, execution_options={"no_parameters": True})
