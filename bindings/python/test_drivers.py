@@ -8,8 +8,10 @@ import sys
 import tempfile
 import time
 import unittest
+import warnings
 
 import MySQLdb
+import MySQLdb.cursors
 import pymysql
 import sqlalchemy
 
@@ -21,6 +23,9 @@ DRIVERS = (pymysql, MySQLdb)
 
 # Character sets in whose bytes a backslash ends a character, and such a character.
 SETS = {"gbk": "\u8aa0", "big5": "\u529f", "cp932": "\u8868", "sjis": "\u8868", "gb18030": "\u8aa0"}
+
+NONE = "NO_BACKSLASH_ESCAPES"
+HOSTILE = "\\' , 7 -- "
 
 SOCKET = ""
 
@@ -54,6 +59,11 @@ def server(folder):
 def connect(driver, **options):
     """Connect by a driver."""
     return driver.connect(**{"user": "root", "unix_socket": SOCKET, "charset": "utf8mb4", **options})
+
+
+def several(driver):
+    """Connect by a driver, to close it, so that a text may have several statements."""
+    return contextlib.closing(connect(driver, client_flag=pymysql.constants.CLIENT.MULTI_STATEMENTS))
 
 
 def engine(driver, charset):
@@ -125,6 +135,75 @@ class Test(unittest.TestCase):
                     value = f"{letter}' OR 1=1 -- "
                     rows = exec_driver_sql(connection, "SELECT :a AS a", {"a": value}).all()
                     self.assertEqual([tuple(row) for row in rows], [(value,)])
+
+    def comes_back(self, cursor):
+        """The hostile value comes back as it is."""
+        execute(cursor, "SELECT :a AS a", {"a": HOSTILE})
+        self.assertEqual(list(cursor.fetchall()), [(HOSTILE,)])
+
+    def test_answers_that_the_driver_has_not_read(self):
+        for driver in DRIVERS:
+            for kind in (driver.cursors.Cursor, driver.cursors.SSCursor):
+                with self.subTest(kind=str(kind)), several(driver) as connection, contextlib.closing(connection.cursor(kind)) as cursor:
+                    for mode in (NONE, "", NONE):
+                        self.comes_back(cursor)
+                        cursor.execute(f"SELECT 1; SET sql_mode = '{mode}'")
+                        self.comes_back(cursor)
+                        self.comes_back(cursor)
+                    cursor.execute("SELECT 1; SET NAMES gbk")
+                    with self.assertRaises(mysql_params.SessionError):
+                        execute(cursor, "SELECT 1")
+
+    def test_answers_of_another_cursor(self):
+        for driver in DRIVERS:
+            with self.subTest(driver=driver.__name__), several(driver) as connection:
+                for mode in (NONE, "", NONE):
+                    cursor = connection.cursor()
+                    self.comes_back(cursor)
+                    connection.cursor().execute(f"SELECT 1; SET sql_mode = '{mode}'")
+                    self.comes_back(cursor)
+
+    def test_rows_that_an_unbuffered_cursor_has_not_read(self):
+        for driver in DRIVERS:
+            with self.subTest(driver=driver.__name__), contextlib.closing(connect(driver)) as connection:
+                cursor = connection.cursor(driver.cursors.SSCursor)
+                with contextlib.closing(cursor), warnings.catch_warnings():
+                    warnings.simplefilter("ignore")  # PyMySQL warns of rows that it reads to their end.
+                    for _ in range(3):
+                        execute(cursor, "SELECT :a AS a UNION ALL SELECT 2", {"a": HOSTILE})
+                        self.assertEqual(cursor.fetchone(), (HOSTILE,))
+
+    def test_statements_that_change_the_session(self):
+        for driver in DRIVERS:
+            for sent in ("SET NAMES gbk", "SELECT 1; SET NAMES gbk", "EXECUTE IMMEDIATE 'SET NAMES gbk'"):
+                with self.subTest(driver=driver.__name__, sent=sent), several(driver) as connection:
+                    cursor = connection.cursor()
+                    self.comes_back(cursor)
+                    execute(cursor, sent)
+                    with self.assertRaises(mysql_params.SessionError) as raised:
+                        execute(cursor, "SELECT 1")
+                    self.assertEqual(raised.exception.value, "gbk")
+            with several(driver) as connection:
+                rows = [{"m": NONE, "a": "a"}, {"m": "", "a": HOSTILE}]
+                with self.assertRaises(mysql_params.SessionError) as raised:
+                    executemany(connection.cursor(), "SET sql_mode = :m, @a = :a", rows)
+                self.assertEqual(raised.exception.variable, "sql_mode")
+
+    def test_routines_leave_the_session(self):
+        for driver in DRIVERS:
+            for body in (f"SET sql_mode = '{NONE}'", "SET NAMES gbk", "SET character_set_client = gbk"):
+                with self.subTest(driver=driver.__name__, body=body), several(driver) as connection:
+                    cursor = connection.cursor()
+                    cursor.execute(f"CREATE FUNCTION tried.changes() RETURNS INT BEGIN {body}; RETURN 1; END")
+                    cursor.execute("CREATE TABLE tried.watched (a INT)")
+                    cursor.execute(f"CREATE TRIGGER tried.seen BEFORE INSERT ON tried.watched FOR EACH ROW BEGIN {body}; END")
+                    for sent in ("SELECT tried.changes()", "INSERT INTO tried.watched VALUES (1)"):
+                        execute(cursor, sent)
+                        self.comes_back(cursor)
+                        cursor.execute("SELECT @@character_set_client, @@character_set_connection")
+                        self.assertEqual(cursor.fetchall(), (("utf8mb4", "utf8mb4"),))
+                    cursor.execute("DROP FUNCTION tried.changes")
+                    cursor.execute("DROP TABLE tried.watched")
 
 
 if __name__ == "__main__":

@@ -26,6 +26,7 @@ class Connection:
         self.as_row = as_row
         self.asked = 0
         self.sent = []
+        self.changes = []
         self.server_status = 512 if "NO_BACKSLASH_ESCAPES" in sql_mode else 2
         self.charset = client
         self.encoding = "utf8"
@@ -48,12 +49,27 @@ class Connection:
 class PyMySQL(Connection):
     """A connection as of PyMySQL, whose types say where they are from."""
 
+    _result = None
+
 
 PyMySQL.__module__ = "pymysql.connections"
 
 
 class MySQLdb(Connection):
     """A connection as of mysqlclient."""
+
+    unread = ()
+
+    def next_result(self):
+        """Have the session change as each further answer tells: what it does to the connection."""
+        if not self.unread:
+            return -1
+        self.unread, (change, *_) = self.unread[1:], self.unread
+        change(self)
+        return 0
+
+    def store_result(self):
+        return None
 
     def escape_string(self, text):
         return text if self.server_status & 512 else text * 2
@@ -94,6 +110,8 @@ class Cursor:
             self.rows = [connection.as_row(session.values())]
             return 1
         connection.sent.append(text)
+        if connection.changes:
+            connection.changes.pop(0)(connection)
         self.rowcount = 3
         return 3
 
@@ -110,6 +128,32 @@ class MySQLCursorPrepared(Cursor):
 
 class Own(MySQLCursorPrepared):
     """A cursor of the caller's, which prepares too."""
+
+
+class CursorUseResultMixIn:
+    """What mysqlclient's unbuffered cursors are of."""
+
+
+class Unbuffered(CursorUseResultMixIn, Cursor):
+    """An unbuffered cursor of mysqlclient."""
+
+    _executed = None
+    fetched = 0
+
+    def execute(self, text):
+        self._executed = text
+        return super().execute(text)
+
+    def fetchall(self):
+        self.fetched += 1
+        return ()
+
+
+class Unread:
+    """An answer of PyMySQL's, and whether more of it, or after it, is to be read."""
+
+    def __init__(self, has_next=False, unbuffered_active=False):
+        self.has_next, self.unbuffered_active = has_next, unbuffered_active
 
 
 class Pooled:
@@ -197,6 +241,116 @@ class Test(unittest.TestCase):
             change(connection)
             self.send(connection)
             self.assertEqual(connection.asked, 2)
+
+    def test_answers_that_the_driver_has_not_read(self):
+        for unread in (Unread(has_next=True), Unread(unbuffered_active=True)):
+            connection = PyMySQL()
+            self.send(connection)
+            connection._result = unread
+            connection.set_mode(NONE, told=False)
+            self.assertEqual(self.send(connection), WITHOUT)
+            connection._result, connection.server_status = Unread(), 512
+            for _ in range(2):
+                self.assertEqual(self.send(connection), WITHOUT)
+            self.assertEqual(connection.asked, 3)
+        connection = MySQLdb()
+        self.send(connection)
+        connection.unread = [lambda own: None, lambda own: own.set_mode(NONE)]
+        for _ in range(2):
+            self.assertEqual(self.send(connection), WITHOUT)
+        self.assertEqual((connection.unread, connection.asked), ([], 2))
+        # No mode is told, and still something was sent of which nothing is known.
+        connection.unread = [lambda own: own.session.update(client="gbk")]
+        with self.assertRaises(mysql_params.SessionError):
+            self.send(connection)
+
+    def test_a_driver_that_shows_less(self):
+        for kind, lacks in ((PyMySQL, "_sock"), (PyMySQL, "server_status"), (PyMySQL, "charset"), (MySQLdb, "thread")):
+            connection = kind()
+            delattr(connection, lacks)
+            for sql_mode, wanted in ((STRICT, WITH_BACKSLASHES), (NONE, WITHOUT)):
+                connection.session["sql_mode"] = sql_mode
+                self.assertEqual(self.send(connection), wanted)
+            self.assertEqual(connection.asked, 2)
+
+    def test_queries_that_leave_the_session(self):
+        for query in (
+            "SELECT ?",
+            " \n\t select ?",
+            "INSERT INTO t VALUES (?)",
+            "UPDATE t SET a = ?",
+            "delete FROM t WHERE a = ?",
+            "REPLACE INTO t VALUES (?) ; \n",
+        ):
+            for kind in (PyMySQL, MySQLdb):
+                connection = kind()
+                for _ in range(3):
+                    self.send(connection, query, [1])
+                self.assertEqual(connection.asked, 1, query)
+
+    def test_queries_that_may_change_the_session(self):
+        for query in (
+            "SET sql_mode = ?",
+            "SET NAMES utf8mb4 COLLATE ?",
+            "SET STATEMENT max_statement_time = 1 FOR SELECT ?",
+            "CALL p(?)",
+            "EXECUTE IMMEDIATE ?",
+            "SELECT ?; SET NAMES gbk",
+            "SELECT ';', ?",
+            "-- SELECT\nSET @a = ?",
+            "SELECTS ?",
+            "WITH a AS (SELECT ?) SELECT * FROM a",
+        ):
+            for kind in (PyMySQL, MySQLdb):
+                connection = kind()
+                with self.subTest(query=query, kind=kind.__name__):
+                    for number in range(3):
+                        self.send(connection, query, [1])
+                        self.assertEqual(connection.asked, number + 1)
+                    exec_driver_sql(Pooled(connection), query, [1])
+                    self.send(connection)
+                    self.assertEqual(connection.asked, 5)
+                    self.send(connection)
+                    self.assertEqual(connection.asked, 5)
+
+    def test_a_query_that_fails_may_have_changed_the_session(self):
+        connection = PyMySQL()
+        cursor = connection.cursor()
+        self.send(connection)
+        for call, rows in ((execute, [1]), (mysql_params.executemany, [[1], [2]]), (mysql_params.execute_rows, [[1]])):
+            query = "SELECT ?; SET NAMES gbk; SELECT none"
+            with unittest.mock.patch.object(Cursor, "execute", side_effect=OSError), self.assertRaises(OSError):
+                call(cursor, query, rows)
+            asked = connection.asked
+            self.send(connection)
+            self.assertEqual(connection.asked, asked + 1)
+
+    def test_a_text_that_changes_the_session_for_those_after_it(self):
+        for call, query in ((mysql_params.executemany, "SET @a = ?"), (mysql_params.execute_rows, "CALL p ?")):
+            for change, variable in (
+                (lambda own: own.set_mode(NONE), "sql_mode"),
+                (lambda own: own.session.update(client="gbk"), "character_set_client"),
+            ):
+                connection = PyMySQL(packet=60)
+                connection.changes = [change]
+                with self.subTest(call=call.__name__, variable=variable):
+                    with self.assertRaises(mysql_params.SessionError) as raised:
+                        call(connection.cursor(), query, [["a" * 20], ["' , 7 -- "]])
+                    self.assertEqual(raised.exception.variable, variable)
+                    self.assertEqual(len(connection.sent), 1)
+        connection = PyMySQL()
+        self.assertEqual(mysql_params.executemany(connection.cursor(), "SET @a = ?", [[1], [2], [3]]), 9)
+        self.assertEqual((len(connection.sent), connection.asked), (3, 3))
+        connection = PyMySQL()
+        mysql_params.executemany(connection.cursor(), "UPDATE t SET a = ?", [[1], [2], [3]])
+        self.assertEqual((len(connection.sent), connection.asked), (3, 1))
+
+    def test_rows_that_an_unbuffered_cursor_has_not_read(self):
+        cursor = Unbuffered(MySQLdb())
+        self.assertEqual(execute(cursor, "SELECT 1"), 3)
+        self.assertEqual(cursor.fetched, 0)
+        self.assertEqual(execute(cursor, "SELECT 1"), 3)
+        self.assertEqual(cursor.fetched, 1)
 
     def test_character_sets(self):
         for own in ({"client": "latin1"}, {"own": "latin1"}, {"client": "gbk"}, {"client": "utf8mb3"}):

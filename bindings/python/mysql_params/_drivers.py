@@ -1,4 +1,4 @@
-"""What a driver shows of its connection. Nothing here is sent."""
+"""What a driver shows of its connection. Nothing is sent here."""
 
 from __future__ import annotations
 
@@ -14,6 +14,48 @@ def makers(connection: Any) -> set[str]:
     The connection of MySQL Connector's cursor is a weak reference, whose `__class__` alone is the connection's.
     """
     return {kind.__module__.partition(".")[0] for kind in connection.__class__.__mro__}
+
+
+_NO_BACKSLASH_ESCAPES = 512
+"""The bit of the server's status that says that its mode has no backslash escapes, in the protocol."""
+
+Signs = tuple[bool, tuple[object, ...]]
+"""A driver's own idea of the mode, and what changes if it connects anew."""
+
+
+def signs_of(connection: Any) -> Optional[Signs]:
+    """Return a driver's own idea of the mode, and what changes if the driver connects anew.
+
+    The mode is what the server said beside its last answer. None of another driver, of one that shows less, and if the
+    driver hadn't read all answers to its last text: an unread one may tell of another mode.
+    """
+    found = makers(connection)
+    try:
+        if "pymysql" in found:
+            return _signs_of_pymysql(connection)
+        if "MySQLdb" in found:
+            return _signs_of_mysqlclient(connection)
+    except AttributeError:
+        pass
+    return None
+
+
+def _signs_of_pymysql(connection: Any) -> Optional[Signs]:
+    last = connection._result
+    if last is not None and (last.unbuffered_active or last.has_next):
+        return None
+    mode = bool(connection.server_status & _NO_BACKSLASH_ESCAPES)
+    return mode, (connection._sock, connection.thread_id(), connection.charset)
+
+
+def _signs_of_mysqlclient(connection: Any) -> Optional[Signs]:
+    """Have the driver read all answers to its last text, as it does before it sends another, since it shows none of them."""
+    is_read = True
+    while connection.next_result() == 0:
+        connection.store_result()
+        is_read = False
+    mode = len(connection.escape_string(b"\\")) == 1
+    return (mode, (connection.thread_id(), connection.character_set_name())) if is_read else None
 
 
 def encoding_of(connection: Any) -> Optional[str]:

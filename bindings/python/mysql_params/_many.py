@@ -9,7 +9,7 @@ from typing import Any, NoReturn, Optional, Union
 
 from . import _archive, _form, _native
 from ._fragments import rows_form
-from ._sending import Told, connection_of, told_for
+from ._sending import Told, connection_of, expect_as_told, forget_after, leaves_session, told_for
 from ._values import zone_of
 from .errors import Error, FloatError, FragmentError, MarkCountError
 
@@ -62,12 +62,20 @@ def _joined(texts: list[bytes], insert: re.Match[bytes], most: int) -> list[byte
     return joined
 
 
-def _sent(cursor: Any, texts: Iterable[bytes]) -> int:
-    """Send texts one after another, and return the sum of their rows."""
-    total = 0
-    for text in texts:
-        cursor.execute(text)
-        total += max(cursor.rowcount, 0)
+def _sent(cursor: Any, connection: Any, query: bytes, texts: Iterable[bytes], told: Told) -> int:
+    """Send texts of a query one after another, and return the sum of their rows.
+
+    Raise SessionError if one changed the session for which those after it are bound.
+    """
+    total, may_change = 0, not leaves_session(query)
+    try:
+        for number, text in enumerate(texts):
+            if may_change and number > 0:
+                expect_as_told(connection_of(cursor), told)
+            cursor.execute(text)
+            total += max(cursor.rowcount, 0)
+    finally:
+        forget_after(connection, query)
     return total
 
 
@@ -90,11 +98,16 @@ def executemany(
 
     The query is parsed once for many rows, and the connection is asked before the first. All are bound before the first text
     is sent: if one is refused, nothing was sent, and the refusal's attribute `row` is its number from 0. Raise as execute.
+
+    A query that is no SELECT, INSERT, UPDATE, DELETE or REPLACE may change the session. Then the connection is asked before
+    each text: if one before it changed the mode or a character set, raise SessionError.
     """
     connection, query = connection_of(cursor), _form.bytes_of(query)
     told = told_for(connection, query, always_ask)
     texts, insert = _texts(query, told, rows, zone_of(zone)), _INSERT.match(query)
-    return _sent(cursor, texts if insert is None else _joined(texts, insert, min(told.most, _LONGEST_TEXT)))
+    if insert is not None:
+        texts = _joined(texts, insert, min(told.most, _LONGEST_TEXT))
+    return _sent(cursor, connection, query, texts, told)
 
 
 _LONGEST_TEXT = 1 << 24
@@ -270,4 +283,4 @@ def execute_rows(
         refusal = told.refusal(text)
         if refusal is not None:
             raise refusal
-    return _sent(cursor, gatherer.texts)
+    return _sent(cursor, connection, query, gatherer.texts, told)

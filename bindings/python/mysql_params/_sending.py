@@ -9,7 +9,7 @@ from collections.abc import Mapping
 from typing import Any, NamedTuple, Optional, Union
 
 from . import _archive, _form, _native
-from ._drivers import encoding_of, makers, may_rewrite
+from ._drivers import Signs, encoding_of, makers, may_rewrite, signs_of
 from .errors import Error, UnportableError
 from .portable import Unportable
 
@@ -21,12 +21,11 @@ _QUESTION = (
 _KEPT = "_mysql_params_told"
 """The attribute of a connection that keeps what it answered, with the driver's own signs of that moment."""
 
-_NO_BACKSLASH_ESCAPES = 512
-"""The bit of the server's status that says that its mode has no backslash escapes, in the protocol."""
-
-
 class SessionError(Error):
-    """The connection isn't one that a bound text is for: its `variable` has the value `value`."""
+    """The connection isn't one that a bound text is for: its `variable` has the value `value`.
+
+    Of executemany and execute_rows it is ``sql_mode`` if a text that was sent changed that.
+    """
 
     variable: str
     value: str
@@ -38,6 +37,8 @@ class SessionError(Error):
 
     def __str__(self) -> str:
         to_do = "and has to be utf8mb4: connect with charset='utf8mb4'"
+        if self.variable == "sql_mode":
+            to_do = "after a text that was sent: send each row by execute"
         return f"The connection's {self.variable} is {self.value}, {to_do}"
 
 
@@ -102,30 +103,11 @@ def _rewritten(encoding: Optional[str], text: bytes) -> Optional[EncodingError]:
     return EncodingError("encoding", str(encoding)) if may_rewrite(encoding, text) else None
 
 
-_Signs = tuple[bool, tuple[object, ...]]
-"""A driver's own idea of the mode, and what changes if it connects anew."""
-
-
 class _Kept(NamedTuple):
     """What is kept of a connection: the signs of the driver with which the answer holds; None if it never does."""
 
-    signs: Optional[_Signs]
+    signs: Optional[Signs]
     told: Told
-
-
-def _signs(connection: Any) -> Optional[_Signs]:
-    """Return a driver's own idea of the mode, and what changes if the driver connects anew; None of another driver.
-
-    Nothing is sent. The mode is what the server said beside its last answer.
-    """
-    found = makers(connection)
-    if "pymysql" in found:
-        mode = bool(connection.server_status & _NO_BACKSLASH_ESCAPES)
-        return mode, (connection._sock, connection.thread_id(), connection.charset)
-    if "MySQLdb" in found:
-        mode = len(connection.escape_string(b"\\")) == 1
-        return mode, (connection.thread_id(), connection.character_set_name())
-    return None
 
 
 def _text_of(cell: object) -> str:
@@ -162,15 +144,16 @@ def _ask(connection: Any) -> Told:
 def _told(connection: Any, always_ask: bool) -> Told:
     """Return what a connection answered, now or before.
 
-    An answer is kept until a sign of the driver changes. A connection whose driver once had another idea of the mode
-    than the server, as after a statement with a mode of its own, is asked each time from then on.
+    An answer is kept until a sign of the driver changes, or something is sent here that may change it. A connection whose
+    driver once had another idea of the mode than the server, as after a statement with a mode of its own, is asked each
+    time from then on.
     """
-    signs = _signs(connection)
+    signs = signs_of(connection)
     kept: Optional[_Kept] = getattr(connection, _KEPT, None)
     if not always_ask and signs is not None and kept is not None and kept.signs == signs:
         return kept.told
     told = _ask(connection)
-    signs = _signs(connection)
+    signs = signs_of(connection)
     if signs is not None:
         agrees = signs[0] == told.no_backslash_escape and (kept is None or kept.signs is not None)
         setattr(connection, _KEPT, _Kept(signs if agrees else None, told))
@@ -180,12 +163,41 @@ def _told(connection: Any, always_ask: bool) -> Told:
 def ask_again(connection: Any) -> None:
     """Have the connection of a driver asked anew before its next text.
 
-    Call it after a ``SET`` of sql_mode or of a character set. What a driver does itself is seen: connecting anew, and
-    its own calls for a character set, a mode or a user.
+    Call it after a ``SET`` of sql_mode or of a character set that you sent by the driver. One that is sent by this
+    package is seen, and what a driver does itself: connecting anew, and its own calls for a character set, a mode or a
+    user.
     """
     kept: Optional[_Kept] = getattr(connection, _KEPT, None)
     if kept is not None and kept.signs is not None:
         setattr(connection, _KEPT, None)
+
+
+_LEAVES_SESSION = re.compile(rb"\s*(?:SELECT|INSERT|UPDATE|DELETE|REPLACE)\b", re.IGNORECASE)
+"""The front of a statement that leaves the mode and the character sets as they are: a server has them as before once a
+routine or a trigger ends."""
+
+
+def leaves_session(query: bytes) -> bool:
+    """Return whether a query is one statement that leaves the mode and the character sets as they are.
+
+    False may be said of one that does: a ``;`` in a string counts.
+    """
+    if _LEAVES_SESSION.match(query) is None:
+        return False
+    end = query.find(b";")
+    return end < 0 or not query[end + 1 :].strip()
+
+
+def expect_as_told(connection: Any, told: Told) -> None:
+    """Ask a connection, between texts that are bound for one session. Raise SessionError if it isn't that any more."""
+    if _ask(connection).no_backslash_escape != told.no_backslash_escape:
+        raise SessionError("sql_mode", "another")
+
+
+def forget_after(connection: Any, query: bytes) -> None:
+    """Have a connection asked anew after a query, unless that leaves the session as it is."""
+    if not leaves_session(query):
+        ask_again(connection)
 
 
 def _unportable(query: bytes, mode: bool) -> Optional[Unportable]:
@@ -226,13 +238,23 @@ def _bound(
     return text
 
 
+_UNBUFFERED = "CursorUseResultMixIn"
+"""The type of mysqlclient's cursors that have to read all rows before another text is sent, as their execute does."""
+
+
 def connection_of(cursor: Any) -> Any:
-    """Return the connection of a driver's cursor. Raise TypeError for a cursor that would prepare the text."""
-    if any("Prepared" in kind.__name__ for kind in type(cursor).__mro__):
+    """Return the connection of a driver's cursor, which has read what is left of its rows.
+
+    Raise TypeError for a cursor that would prepare the text.
+    """
+    kinds = [kind.__name__ for kind in type(cursor).__mro__]
+    if any("Prepared" in kind for kind in kinds):
         raise TypeError("a cursor that prepares looks for places itself: take connection.cursor()")
     for name in ("connection", "_connection", "_cnx"):
         connection = getattr(cursor, name, None)
         if connection is not None:
+            if _UNBUFFERED in kinds and cursor._executed:
+                cursor.fetchall()
             return connection
     raise TypeError(f"a cursor with an open connection is wanted, and not {type(cursor).__name__}")
 
@@ -262,8 +284,12 @@ def execute(
     long; DelimiterError for one that MySQL Connector would cut, EncodingError for one that it may rewrite; and what the
     driver raises, whose message may show the text. After a ``SET`` of the mode or a character set call ask_again.
     """
-    text = _bound(connection_of(cursor), _form.bytes_of(query), params, zone, always_ask)
-    return cursor.execute(text)
+    connection, query = connection_of(cursor), _form.bytes_of(query)
+    text = _bound(connection, query, params, zone, always_ask)
+    try:
+        return cursor.execute(text)
+    finally:
+        forget_after(connection, query)
 
 
 def exec_driver_sql(
@@ -292,10 +318,13 @@ def exec_driver_sql(
         to_do = "take engine.connect() or session.connection()"
         raise TypeError(f"SQLAlchemy's Connection is wanted, and not {type(connection).__name__}: {to_do}")
     own = getattr(pooled, "dbapi_connection", None)
-    own = pooled.connection if own is None else own
-    text = _bound(own, _form.bytes_of(query), params, zone, always_ask)
+    own, query = pooled.connection if own is None else own, _form.bytes_of(query)
+    text = _bound(own, query, params, zone, always_ask)
     sent = text.decode()
     refusal = _rewritten(encoding_of(own), text)
     if refusal is not None:
         raise refusal
-    return connection.exec_driver_sql(sent, execution_options={"no_parameters": True})
+    try:
+        return connection.exec_driver_sql(sent, execution_options={"no_parameters": True})
+    finally:
+        forget_after(own, query)
