@@ -510,7 +510,7 @@ class Test(unittest.TestCase):
             self.assertEqual(raised.exception.reason, message)
         for params, kind, message in (
             ({"a": 1, "": 1}, ValueError, "Parameter 1 has an empty name"),
-            ({7: 1}, TypeError, "a name is str or bytes, and 7 is of type int"),
+            ({7: 1}, TypeError, "a name is str or bytes, and that of parameter 0 is of type int"),
             ({"\n\u00e4": 1j}, TypeError, "the value of `:\\x0a\\xc3\\xa4` is of type complex, which has no literal"),
         ):
             with self.assertRaises(kind) as raised:
@@ -603,7 +603,7 @@ class Test(unittest.TestCase):
             for call in calls:
                 with self.subTest(mode=mode), self.assertRaises(TypeError) as raised:
                     call(mode)
-                self.assertEqual(str(raised.exception), f"no_backslash_escape is True or False, and not {mode!r}")
+                self.assertEqual(str(raised.exception), f"no_backslash_escape is True or False, and not of type {type(mode).__name__}")
 
     def test_version(self):
         cargo = (CASES.parent / "rust" / "Cargo.toml").read_text()

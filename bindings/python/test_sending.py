@@ -478,8 +478,10 @@ class Test(unittest.TestCase):
         for wrong in (object(), unittest.mock.Mock(connection=lambda: pooled)):
             with self.assertRaisesRegex(TypeError, "^SQLAlchemy's Connection is wanted, and not (object|Mock): take"):
                 exec_driver_sql(wrong, "SELECT 1")
-        with self.assertRaises(UnicodeDecodeError):
-            exec_driver_sql(pooled, b"SELECT '\xff'")
+        query = b"SELECT '\xff', ?"
+        with self.assertRaises(UnicodeDecodeError) as raised:
+            exec_driver_sql(pooled, query, ["secret"])
+        self.assertEqual(raised.exception.object, query)
 
     def test_drivers_that_make_other_bytes(self):
         # Each encoding with values that its bytes hold a backslash of, or that it writes in another way than UTF-8.

@@ -477,8 +477,10 @@ class Test(unittest.TestCase):
             ("DESC", "DESC", TypeError),
             (b"DESC", (b"DESC",), TypeError),
         ):
-            with self.subTest(word=word), self.assertRaises(kind):
+            with self.subTest(word=word), self.assertRaises(kind) as raised:
                 mysql_params.Keyword(word, among=among)
+            if kind is ValueError:
+                self.assertEqual(str(raised.exception), f"the word is none of the keywords {', '.join(map(repr, among))}")
         # The words of the archive alone are written, whatever the caller lets through.
         with self.assertRaises(mysql_params.FragmentError) as raised:
             bind("?", [mysql_params.Keyword("DESC, b", among=("DESC, b",))])

@@ -41,7 +41,7 @@ def flag(mode: object) -> bool:
     """Return the mode of a call. The truth of another object may be the wrong mode."""
     if mode is True or mode is False:
         return mode
-    raise TypeError(f"no_backslash_escape is True or False, and not {mode!r}")
+    raise TypeError(f"no_backslash_escape is True or False, and not of type {type(mode).__name__}")
 
 
 class Tables:

@@ -160,7 +160,7 @@ def value_form(value: object, which: Union[bytes, int], zone: Optional[datetime.
 def name_of(name: object, number: int) -> bytes:
     """Return the bytes of a name, of the parameter of a number."""
     if not isinstance(name, (str, bytes)):
-        raise TypeError(f"a name is str or bytes, and {name!r} is of type {type(name).__name__}")
+        raise TypeError(f"a name is str or bytes, and that of parameter {number} is of type {type(name).__name__}")
     own = bytes_of(name)
     if not own:
         raise ValueError(f"Parameter {number} has an empty name")

@@ -122,7 +122,7 @@ class Keyword:
             raise TypeError("a Keyword is a str, and among are several")
         choice = tuple(among)
         if word not in choice:
-            raise ValueError(f"{word!r} is none of the keywords {', '.join(map(repr, choice))}")
+            raise ValueError(f"the word is none of the keywords {', '.join(map(repr, choice))}")
         self.word = word
 
     def __repr__(self) -> str:

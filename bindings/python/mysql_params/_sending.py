@@ -307,7 +307,7 @@ def exec_driver_sql(
             rows = mysql_params.exec_driver_sql(connection, "SELECT :a", {"a": "100%"}).all()
 
     It is `exec_driver_sql` of SQLAlchemy without parameters and with `no_parameters`: else a ``%`` in a value would be
-    read as a format. A query of bytes is UTF-8. Everything else is as of execute.
+    read as a format. A query of bytes is UTF-8, else it is a UnicodeDecodeError. Everything else is as of execute.
 
     SQLAlchemy gives the driver a str, which that makes bytes of in its own encoding. Raise EncodingError if these would
     be others than the text's, as after ``SET NAMES utf8mb4`` over ``?charset=gbk``. Of a driver whose encoding isn't
@@ -319,12 +319,12 @@ def exec_driver_sql(
         raise TypeError(f"SQLAlchemy's Connection is wanted, and not {type(connection).__name__}: {to_do}")
     own = getattr(pooled, "dbapi_connection", None)
     own, query = pooled.connection if own is None else own, _form.bytes_of(query)
+    query.decode()  # The error of bytes that aren't UTF-8 has the query, and no value.
     text = _bound(own, query, params, zone, always_ask)
-    sent = text.decode()
     refusal = _rewritten(encoding_of(own), text)
     if refusal is not None:
         raise refusal
     try:
-        return connection.exec_driver_sql(sent, execution_options={"no_parameters": True})
+        return connection.exec_driver_sql(text.decode(), execution_options={"no_parameters": True})
     finally:
         forget_after(own, query)
