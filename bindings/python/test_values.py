@@ -1,4 +1,4 @@
-"""Tests of the further types of values: how each is bound, what is registered, zones, and parameters in order."""
+"""Tests of the further types of values: how each is bound, what is registered, and parameters in order."""
 
 import datetime
 import decimal
@@ -22,27 +22,6 @@ except ImportError:
     numpy = None
 
 UTC = datetime.timezone.utc
-MADRID = datetime.timezone(datetime.timedelta(hours=1))
-MOMENT = datetime.datetime(2019, 11, 27, 23, 30, tzinfo=UTC)
-
-
-class Berlin(datetime.tzinfo):
-    """The clocks of Berlin in 2026: an hour before UTC, and two from March 29 to October 25, each at 01:00 UTC."""
-
-    def fromutc(self, moment):
-        now, end = moment.replace(tzinfo=None), datetime.datetime(2026, 10, 25, 1)
-        hours = 2 if datetime.datetime(2026, 3, 29, 1) <= now < end else 1
-        fold = end <= now < end + datetime.timedelta(hours=1)
-        return (moment + datetime.timedelta(hours=hours)).replace(fold=fold)
-
-    def utcoffset(self, moment):
-        # In a gap the offset of fold 0 is the one before it.
-        shift = datetime.timedelta(hours=0 if moment.fold else 1)
-        begin, end = datetime.datetime(2026, 3, 29, 2), datetime.datetime(2026, 10, 25, 2)
-        return datetime.timedelta(hours=2 if begin + shift <= moment.replace(tzinfo=None) < end + shift else 1)
-
-
-BERLIN = Berlin()
 
 
 class Color(enum.Enum):
@@ -515,63 +494,6 @@ class Test(unittest.TestCase):
         for kind, function in (("int", str), (Color, "text"), (None, str)):
             with self.subTest(kind=kind), self.assertRaises(TypeError):
                 register(kind, function)
-
-    def test_zones(self):
-        with self.assertRaisesRegex(TypeError, "a datetime with a time zone: .* hand in zone"):
-            bind("?", [MOMENT])
-        self.assertEqual(bind("?", [MOMENT], zone=UTC), b"'2019-11-27 23:30:00'")
-        assigned = mysql_params.Assignments({"a": MOMENT})
-        self.assertEqual(bind("?", [assigned], zone=MADRID), b"`a` = '2019-11-28 00:30:00'")
-        self.assertEqual(bind(":a", {"a": MOMENT}, zone=MADRID), b"'2019-11-28 00:30:00'")
-        self.assertEqual(mysql_params.bind_anywhere("?", [MOMENT], zone=UTC), b"'2019-11-27 23:30:00'")
-        with self.assertRaises(TypeError):
-            mysql_params.bind_anywhere("?", [MOMENT])
-        naive = datetime.datetime(2019, 11, 27, 12)
-        text = bind("?, ?", [naive, datetime.date(2019, 1, 2)], zone=MADRID)
-        self.assertEqual(text, b"'2019-11-27 12:00:00', '2019-01-02'")
-
-        class Unknown(datetime.tzinfo):
-            def utcoffset(self, moment):
-                return None
-
-        with self.assertRaises(TypeError):
-            bind("?", [datetime.datetime(2019, 11, 27, tzinfo=Unknown())], zone=UTC)
-        for zone in ("UTC", 0, True):
-            with self.subTest(zone=zone), self.assertRaisesRegex(TypeError, "^zone is a datetime.tzinfo"):
-                bind("SELECT 1", zone=zone)
-
-    def test_clock_changes(self):
-        for month, day, hour, minute, wanted in (
-            (3, 29, 0, 59, b"'2026-03-29 01:59:00'"),
-            (3, 29, 1, 0, b"'2026-03-29 03:00:00'"),
-            (10, 24, 23, 59, b"'2026-10-25 01:59:00'"),
-            (10, 25, 2, 0, b"'2026-10-25 03:00:00'"),
-        ):
-            moment = datetime.datetime(2026, month, day, hour, minute, tzinfo=UTC)
-            self.assertEqual(bind("?", [moment], zone=BERLIN), wanted)
-            self.assertEqual(bind("?", [moment.astimezone(BERLIN)], zone=BERLIN), wanted)
-        twice = [datetime.datetime(2026, 10, 25, hour, 30, tzinfo=UTC) for hour in (0, 1)]
-        twice += [moment.astimezone(BERLIN) for moment in twice]
-        self.assertEqual({str(moment.replace(tzinfo=None)) for moment in twice[2:]}, {"2026-10-25 02:30:00"})
-        never = datetime.datetime(2026, 3, 29, 2, 30, tzinfo=BERLIN)
-        for moment in (*twice, never):
-            with self.subTest(moment=str(moment)), self.assertRaises(ValueError) as raised:
-                bind(":a", {"a": moment}, zone=BERLIN)
-            message = "the value of `:a` is a datetime that the clocks of the zone show twice, or never: "
-            self.assertTrue(str(raised.exception).startswith(message))
-        self.assertEqual(bind("?, ?", twice[:2], zone=UTC), b"'2026-10-25 00:30:00', '2026-10-25 01:30:00'")
-        self.assertEqual(bind("?, ?", twice[2:], zone=UTC), b"'2026-10-25 00:30:00', '2026-10-25 01:30:00'")
-        self.assertEqual(bind("?", [datetime.datetime(2026, 10, 25, 2, 30)], zone=BERLIN), b"'2026-10-25 02:30:00'")
-
-    def test_moments_outside_of_the_years(self):
-        west = datetime.timezone(datetime.timedelta(hours=-1))
-        for moment, zone in ((datetime.datetime.max, MADRID), (datetime.datetime.min, west)):
-            with self.subTest(zone=zone), self.assertRaises(ValueError) as raised:
-                bind("?", [moment.replace(tzinfo=UTC)], zone=zone)
-            message = "the value for place 0 is a datetime that is outside of the years 1 to 9999 in the zone"
-            self.assertEqual(str(raised.exception), message)
-        last = datetime.datetime.max.replace(tzinfo=UTC)
-        self.assertEqual(bind("?", [last], zone=west), b"'9999-12-31 22:59:59.999999'")
 
     def test_parameters_in_order(self):
         ids = {"a": 1, "b": 2}

@@ -80,7 +80,7 @@ def _shown(
     if shown is None:
         to_do = "convert it to a naive one, or hand in zone=.., the session's"
         raise TypeError(f"{place(which)} is a datetime with a time zone: {to_do}")
-    if is_ambiguous(shown):
+    if is_ambiguous(shown, zone):
         to_do = "bind it in a session whose zone is UTC"
         raise ValueError(f"{place(which)} is a datetime that the clocks of the zone show twice, or never: {to_do}")
     return shown.replace(tzinfo=None)

@@ -134,9 +134,34 @@ def in_zone(value: datetime.datetime, zone: Optional[datetime.tzinfo]) -> Option
     return value.astimezone(zone)
 
 
-def is_ambiguous(value: datetime.datetime) -> bool:
-    """Return whether the clocks of a datetime's zone show it twice, or never: then it has two offsets from UTC."""
-    return value.replace(fold=0).utcoffset() != value.replace(fold=1).utcoffset()
+def is_ambiguous(value: datetime.datetime, zone: Optional[datetime.tzinfo]) -> bool:
+    """Return whether the clocks of a zone show a datetime twice, or never: then it has two offsets from UTC.
+
+    Zones other than Python's own may say one offset for both, as those of pytz do. There the clocks are looked at a day
+    before and after, and at the moments to which the offsets of these lead.
+    """
+    if value.replace(fold=0).utcoffset() != value.replace(fold=1).utcoffset():
+        return True
+    if type(zone).__module__ in ("datetime", "zoneinfo"):
+        return False
+    moment = value.astimezone(datetime.timezone.utc).replace(tzinfo=None)
+    shown = value.replace(tzinfo=None)
+    return _clocks(moment, zone) != shown or any(_is_shown_later(moment, shown, zone, days) for days in (-1, 1))
+
+
+def _is_shown_later(moment: datetime.datetime, shown: datetime.datetime, zone: Optional[datetime.tzinfo], days: int) -> bool:
+    """Return whether clocks show at another moment what they show at one, by the offset that they have some days later."""
+    try:
+        near = moment + datetime.timedelta(days)
+        other = shown - (_clocks(near, zone) - near)
+        return other != moment and _clocks(other, zone) == shown
+    except OverflowError:
+        return False  # It is outside of the years that a datetime has.
+
+
+def _clocks(moment: datetime.datetime, zone: Optional[datetime.tzinfo]) -> datetime.datetime:
+    """Return what the clocks of a zone show at a moment, which is of UTC."""
+    return moment.replace(tzinfo=datetime.timezone.utc).astimezone(zone).replace(tzinfo=None)
 
 
 def zone_of(zone: object) -> Optional[datetime.tzinfo]:
