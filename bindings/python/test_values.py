@@ -33,6 +33,31 @@ class Color(enum.Enum):
     PRICE = decimal.Decimal("0.01")
 
 
+class Labelled(str, enum.Enum):
+    """A str whose value is another one."""
+
+    def __new__(cls, label, value):
+        made = str.__new__(cls, label)
+        made._value_ = value
+        return made
+
+    A = "label", 7
+
+
+class Rights(enum.IntFlag):
+    """Numbers that are iterable, from Python 3.11 on."""
+
+    READ = 4
+    ALL = 7
+
+
+class Digits(int):
+    """A number that is iterable."""
+
+    def __iter__(self):
+        return iter(str(int(self)))
+
+
 class Text(str, enum.Enum):
     """A str that is a member."""
 
@@ -494,6 +519,22 @@ class Test(unittest.TestCase):
         for kind, function in (("int", str), (Color, "text"), (None, str)):
             with self.subTest(kind=kind), self.assertRaises(TypeError):
                 register(kind, function)
+
+    def test_members_are_bound_as_their_values(self):
+        for value, wanted in (
+            (Labelled.A, b"7"),
+            (Rights.READ, b"4"),
+            (Rights.ALL, b"7"),
+            (Rights.READ | 1, b"5"),
+            (Digits(12), b"12"),
+        ):
+            with self.subTest(kind=type(value).__name__, wanted=wanted):
+                self.assertEqual(bind("?", [value]), wanted)
+                self.assertEqual(bind(":a", {"a": value}), wanted)
+                self.assertEqual(mysql_params.bind_in_both_modes("?", [value]), wanted)
+                self.assertEqual(bind("?", [[value, value]]), wanted + b", " + wanted)
+                self.assertEqual(bind("?", [[[value]]]), b"(" + wanted + b")")
+                self.assertEqual(bind("?", [mysql_params.Assignments({"a": value})]), b"`a` = " + wanted)
 
     def test_parameters_in_order(self):
         ids = {"a": 1, "b": 2}

@@ -129,8 +129,8 @@ class Keyword:
         return f"Keyword({self.word!r}, among=({self.word!r},))"
 
 
-_NO_LISTS = (str, bytes, bytearray, memoryview, Mapping)
-"""The types of which each is more than what it consists of."""
+_NO_LISTS = (*_form._BOUND, Mapping)
+"""The types of which each is more than what it consists of, as a text, or a flag of an enum."""
 
 _FRAGMENTS = (decimal.Decimal, list, tuple, Identifier, Assignments, Keyword)
 """The types of what isn't one value."""

@@ -106,10 +106,12 @@ def _time(value: datetime.time) -> Optional[datetime.timedelta]:
 
 
 def _other(value: object) -> object:
-    """Return what a value of a type without a literal is bound as; itself if there is nothing."""
+    """Return what a value is bound as by its type; itself if it is that, or if there is nothing."""
     kind = type(value)
     if issubclass(kind, enum.Enum):
         return value.value  # type: ignore[attr-defined]
+    if issubclass(kind, tuple(_BOUND)):
+        return value
     if issubclass(kind, uuid.UUID):
         return str(value)
     if issubclass(kind, datetime.time):
@@ -179,11 +181,9 @@ def plain(value: object) -> object:
         function = _registered(type(value))
         if function is not None:
             value = function(value)
-        elif issubclass(type(value), tuple(_BOUND)):
+            continue
+        made = _other(value)
+        if made is value:
             return value
-        else:
-            made = _other(value)
-            if made is value:
-                return value
-            value = made
+        value = made
     raise TypeError(f"the functions that are registered for a {type(value).__name__} make no end")
