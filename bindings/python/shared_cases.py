@@ -116,6 +116,50 @@ def value_of(text):
     return {"null": None}[kind]
 
 
+PLACE, NAME = r"at place (\d+)", r"the value of (`:\w+`)"
+
+MESSAGES = (
+    (r"Named and positional params in one query", "The query has both `:name` and `?`: write one of them everywhere"),
+    (r"Named params given where positional params are expected", "The values have names, and the query has none"),
+    (r"Positional params given .*", "The values are in order, and the query has names: give a dict"),
+    (r"Missing named parameter `(\w+)` for statement", r"`:\1` has no value"),
+    (r"Redefinition of named parameter `(.*)'", r"`:\1` is given twice"),
+    (r"Query has (\d+) marks and (\d+) values", r"The query has \1 `?`, and \2 values are given"),
+    (rf"Float {PLACE}: {NAME};", r"The value for \2 is a float:"),
+    (rf"Float {PLACE};", r"The value for place \1 is a float:"),
+    (r"Backslash or byte that is not ASCII (at byte )(\d+) of the query", r"Byte \2 of the query is a backslash or is not ASCII"),
+    (r"Backslash in a string (at byte \d+) of the query", r"A string of the query has a backslash \1"),
+    (rf"Fragment {PLACE} has a name .*: {NAME}", r"A name for \2 has a backslash or a character that is not ASCII"),
+    (rf"Fragment {PLACE} has a name .*", r"A name for place \1 has a backslash or a character that is not ASCII"),
+    (rf"Fragment {PLACE} can't be written: it is empty: {NAME}", r"The list for \2 is empty"),
+    (rf"Fragment {PLACE} can't be written: it is empty", r"The list for place \1 is empty"),
+    (rf"Fragment {PLACE} can't be written: row (\d+) (.*)", r"Row \2 for place \1 \3"),
+    (rf"Fragment {PLACE} can't be written: name (\d+) (.*)", r"Name \2 for place \1 \3"),
+)
+"""Messages of the cases, and how Python says them."""
+
+TOUCHES = {
+    b"1?": "`?` at byte 1 touches `1`: put a space between",
+    b"?A": "`?` at byte 0 touches `A`: put a space between",
+    b":abc, x:b": "`:b` at byte 7 touches `x`: put a space between, or behind the colon of a label",
+    b"lbl:LOOP": "`:LOOP` at byte 3 touches `lbl`: put a space between, or behind the colon of a label",
+    b"SELECT 'a\\':b": "`:b` at byte 11 touches `'`: put a space between, or behind the colon of a label",
+    "SELECT :Gr\u00f6\u00dfe".encode(): "`:Gr` at byte 7 touches `\\xc3\\xb6\\xc3\\x9fe`: names are of ASCII letters, digits and _, "
+    "so `:Gr\\xc3\\xb6\\xc3\\x9fe` ends after `Gr`",
+}
+"""What Python says of cases whose places don't stand alone, by the query."""
+
+
+def message_of(told, query):
+    """Return how Python says a message of a case."""
+    if "does not stand alone" in told:
+        return TOUCHES[query]
+    for pattern, own in MESSAGES:
+        if re.match(pattern, told):
+            return re.sub(pattern, own, told, count=1)
+    return told
+
+
 class Case:
     """A case, and the lines that it stands in."""
 
@@ -146,7 +190,7 @@ class Case:
         elif word == "name":
             self.names.append(rest)
         elif word == "message":
-            self.message = rest
+            self.message = message_of(rest, self.query)
         elif word == "message_in_c":
             pass
         elif word == "refused":

@@ -152,7 +152,7 @@ class Test(unittest.TestCase):
         to_do = "give None for NaN and infinities, else a text"
         for row in ((1, NAN), (0.5, -NAN), ([0.5], [1, NAN])):
             found = self.refused(mysql_params.FloatError, executemany, INSERT, [(0.5, 2), row, (1, {2})])
-            self.assertEqual((found.row, str(found)), (1, f"row 1: Float at place 1; {to_do}"))
+            self.assertEqual((found.row, str(found)), (1, f"row 1: The value for place 1 is a float: {to_do}"))
 
     def test_a_row_that_is_too_long(self):
         for packet, row in ((34, None), (33, 1), (32, 0)):

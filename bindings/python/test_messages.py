@@ -1,5 +1,6 @@
 """Tests of messages that say what to write instead."""
 
+import pickle
 import re
 import sys
 import unittest
@@ -14,23 +15,40 @@ class Test(unittest.TestCase):
 
     def test_places_beside_a_point(self):
         to_do = ': for a name with a point write one place, and give an Identifier of two names, as Identifier("b", "c")'
-        for query, number, position, more in (
-            ("SELECT b.:c", 0, 9, to_do),
-            ("SELECT :b.:c", 0, 7, to_do),
-            ("SELECT ?.c", 0, 7, to_do),
-            ("SELECT b.?", 0, 9, to_do),
-            ("1?", 0, 1, ""),
-            ("1:c", 0, 1, ""),
+        between, label = ": put a space between", ", or behind the colon of a label"
+        for query, place, position, beside, more in (
+            ("SELECT b.:c", ":c", 9, ".", to_do),
+            ("SELECT :b.:c", ":b", 7, ".", to_do),
+            ("SELECT ?.c", "?", 7, ".", to_do),
+            ("SELECT b.?", "?", 9, ".", to_do),
+            ("1?", "?", 1, "1", between),
+            ("SELECT a, 10.5e1?", "?", 16, "5e1", between),
+            ("SELECT ? x, ?abc, 1", "?", 12, "abc", between),
+            ("SELECT 'a'?", "?", 10, "'", between),
+            ("SELECT ?'a'", "?", 7, "'", between),
+            ("SELECT ??", "?", 7, "?", between),
+            ("SELECT ?{0}", "?", 7, "{", between),
+            ("SELECT ?\0", "?", 7, "\\x00", between),
+            ("1:c", ":c", 1, "1", between + label),
+            ("lbl:b", ":b", 3, "lbl", between + label),
+            ("::b", ":b", 1, ":", between + label),
+            ("SELECT " + "x" * 100 + ":b", ":b", 107, "x" * 64, between + label),
+            ("SELECT ?" + "x" * 100, "?", 7, "x" * 64, between),
         ):
-            values = {"b": 1, "c": 2} if ":" in query else [1]
+            values = {"b": 1, "c": 2} if ":" in query else [1] * query.count("?")
             with self.subTest(query=query), self.assertRaises(mysql_params.NotAloneError) as raised:
                 bind(query, values)
-            message = f"Place {number} at byte {position} does not stand alone{more}"
-            self.assertEqual(str(raised.exception), message)
+            message = f"`{place}` at byte {position} touches `{beside}`{more}"
+            self.assertEqual((raised.exception.position, str(raised.exception)), (position, message))
+            self.assertEqual(str(pickle.loads(pickle.dumps(raised.exception))), message)
         self.assertEqual(bind("SELECT :c", {"c": mysql_params.Identifier("b", "c")}), b"SELECT `b`.`c`")
         with self.assertRaises(mysql_params.NotAloneError) as raised:
             bind("b.:c\u00f6", {"c": 1})
-        self.assertTrue(str(raised.exception).endswith("so `:c\\xc3\\xb6` ends after `c`"))
+        alphabet = "names are of ASCII letters, digits and _"
+        message = f"`:c` at byte 2 touches `.`: {alphabet}, so `:c\\xc3\\xb6` ends after `c`"
+        self.assertEqual(str(raised.exception), message)
+        message = "Place 1 at byte 2 touches what stands beside it: put a space between"
+        self.assertEqual(str(mysql_params.NotAloneError(1, 2)), message)
 
     def test_queries_that_are_no_text(self):
         for query in (5, None, ["SELECT 1"]):

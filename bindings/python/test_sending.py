@@ -455,14 +455,14 @@ class Test(unittest.TestCase):
                 execute(cursor, "SELECT 1")
 
     def test_places_of_other_libraries(self):
-        named = "Named params given where positional params are expected"
+        named = "The values have names, and the query has none"
         for query, params, message in (
-            ("SELECT %s", [1], "Query has 0 marks and 1 values: a mark is `?`, and not `%s`"),
-            ("SELECT ?, '%s'", [1, 2], "Query has 1 marks and 2 values"),
-            ("SELECT 1 in ( ? )", [1, 2], "Query has 1 marks and 2 values: for one `?` hand in a list of one, as `[ids]` or `[rows]`"),
-            ("VALUES ?", [1, 2], "Query has 1 marks and 2 values: for one `?` hand in a list of one, as `[ids]` or `[rows]`"),
-            ("SELECT ?", [1, 2], "Query has 1 marks and 2 values"),
-            ("VALUES ?", [], "Query has 1 marks and 0 values"),
+            ("SELECT %s", [1], "The query has 0 `?`, and 1 values are given: a place is `?`, and not `%s`"),
+            ("SELECT ?, '%s'", [1, 2], "The query has 1 `?`, and 2 values are given"),
+            ("SELECT 1 in ( ? )", [1, 2], "The query has 1 `?`, and 2 values are given: for one `?` hand in a list of one, as `[ids]` or `[rows]`"),
+            ("VALUES ?", [1, 2], "The query has 1 `?`, and 2 values are given: for one `?` hand in a list of one, as `[ids]` or `[rows]`"),
+            ("SELECT ?", [1, 2], "The query has 1 `?`, and 2 values are given"),
+            ("VALUES ?", [], "The query has 1 `?`, and 0 values are given"),
             ("SELECT %(a)s", {"a": 1}, named + ": a place is `:name`, and not `%(name)s`"),
             ("SELECT ?, ':a'", {"a": 1}, named + ": no `:name` stands outside of strings and comments"),
         ):

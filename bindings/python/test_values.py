@@ -202,18 +202,18 @@ class Test(unittest.TestCase):
         self.assertEqual(bind(":a", {"a": "it's", "b": 0.5}), b"'it\\'s'")
 
     def test_floats_without_a_number(self):
-        to_do = "; give None for NaN and infinities, else a text"
+        to_do = ": give None for NaN and infinities, else a text"
         for value in (float("nan"), float("inf"), float("-inf")):
             for call in (bind, mysql_params.bind_anywhere, lambda query, given: mysql_params.Template(query).bind(given)):
                 for given in (value, [0.5, value], ["a", value], [(0.5, 1), (2, value)]):
                     with self.subTest(given=given), self.assertRaises(mysql_params.FloatError) as raised:
                         call(":a, :b", {"a": 0.5, "b": given})
                     self.assertEqual((raised.exception.place, raised.exception.name), (1, "b"))
-                    self.assertEqual(str(raised.exception), "Float at place 1: the value of `:b`" + to_do)
+                    self.assertEqual(str(raised.exception), "The value for `:b` is a float" + to_do)
                     with self.assertRaises(mysql_params.FloatError) as raised:
                         call("?", [given])
                     self.assertEqual((raised.exception.place, raised.exception.name), (0, None))
-                    self.assertEqual(str(raised.exception), "Float at place 0" + to_do)
+                    self.assertEqual(str(raised.exception), "The value for place 0 is a float" + to_do)
                 # It is refused only if the query has a place for it.
                 self.assertEqual(call(":a", {"a": 0.5, "b": value}), b"0.5e0")
 
@@ -431,7 +431,7 @@ class Test(unittest.TestCase):
             (10**65, OverflowError, "the value for place 0 is a whole number of more than 65 digits"),
             (decimal.Decimal("NaN"), ValueError, "the value for place 0: a Decimal that is NaN has no digits"),
             ("\ud800", UnicodeEncodeError, "in the value for place 0"),
-            (float("nan"), mysql_params.FloatError, "Float at place 0"),
+            (float("nan"), mysql_params.FloatError, "The value for place 0 is a float"),
         ):
             with self.subTest(value=value), self.assertRaises(kind) as raised:
                 bind("?", [mysql_params.Assignments({"a": value})])
@@ -443,7 +443,7 @@ class Test(unittest.TestCase):
                 mysql_params.Assignments(assigned)
         with self.assertRaises(mysql_params.FragmentError) as raised:
             bind(":set", {"set": mysql_params.Assignments({})})
-        self.assertEqual(str(raised.exception), "Fragment at place 0 can't be written: it is empty: the value of `:set`")
+        self.assertEqual(str(raised.exception), "The list for `:set` is empty")
         with self.assertRaises(mysql_params.FragmentError) as raised:
             bind("?", [mysql_params.Assignments([(mysql_params.Identifier("t", "a"), 1), ("b\0", 2)])])
         self.assertEqual((raised.exception.fault, raised.exception.item), (mysql_params.Fault.ZERO_BYTE, 2))
@@ -503,8 +503,8 @@ class Test(unittest.TestCase):
         for word in others:
             with self.subTest(word=word), self.assertRaises(mysql_params.FragmentError) as raised:
                 bind(":a", {"a": mysql_params.Keyword(word, among=(word,))})
-            message = "it is none of the keywords in capitals that KEYWORDS lists: the value of `:a`"
-            self.assertEqual(str(raised.exception), f"Fragment at place 0 can't be written: {message}")
+            message = "The word for `:a` is none of the keywords in capitals that KEYWORDS lists"
+            self.assertEqual(str(raised.exception), message)
 
     def test_types_that_cannot_be_registered(self):
         for kind in (int, str, bool, type(None), bytes, datetime.datetime, object):

@@ -31,7 +31,7 @@ class Test(unittest.TestCase):
         with self.assertRaises(mysql_params.MissingError) as raised:
             bind("SELECT :iD", given)
         self.assertEqual((raised.exception.name, raised.exception.position), (b"iD", 8))
-        self.assertEqual(str(raised.exception), "Missing named parameter `iD` for statement")
+        self.assertEqual(str(raised.exception), "`:iD` has no value")
 
     def test_colons_that_begin_no_name(self):
         self.assertEqual(bind("x: LOOP :1 :Id", {"Id": 2, "LOOP": 3}), b"x: LOOP :1 2")
@@ -70,11 +70,16 @@ class Test(unittest.TestCase):
         self.assertEqual((raised.exception.position, raised.exception.construct), (7, Construct.HINT))
 
     def test_refusals(self):
-        for query, position in (("SELECT x:A", 8), ("SELECT x::A", 9), ("lbl:BEGIN", 3), ("SELECT :A:A", 7)):
+        for query, position, touches in (
+            ("SELECT x:A", 8, "`:A` at byte 8 touches `x`"),
+            ("SELECT x::A", 9, "`:A` at byte 9 touches `:`"),
+            ("lbl:BEGIN", 3, "`:BEGIN` at byte 3 touches `lbl`"),
+            ("SELECT :A:A", 7, "`:A` at byte 7 touches `:`"),
+        ):
             with self.subTest(query=query), self.assertRaises(mysql_params.NotAloneError) as raised:
                 bind(query, {"A": 1, "BEGIN": 1})
             self.assertEqual((raised.exception.place, raised.exception.position), (0, position))
-            self.assertEqual(str(raised.exception), f"Place 0 at byte {position} does not stand alone")
+            self.assertEqual(str(raised.exception), touches + ": put a space between, or behind the colon of a label")
         self.assertRaises(mysql_params.MixedError, bind, ":A, ?", {"A": 1})
         self.assertRaises(mysql_params.MixedError, names, ":A, ?")
         self.assertRaises(mysql_params.PositionalForNamedError, bind, ":A", [1])

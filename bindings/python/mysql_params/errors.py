@@ -19,9 +19,28 @@ _PLACE_OF_MANY = re.compile(rb"\bIN\s*\(\s*\?\s*\)|\bVALUES\s*\?", re.I)
 _ALPHABET = "names are of ASCII letters, digits and _"
 
 _PLACE_AT = re.compile(rb":[A-Za-z0-9_]*|\?")
+_WORD_BEFORE = re.compile(rb"(?:[\w$\x80-\xff]+|[^\w$\x80-\xff])\Z")
+_WORD_AFTER = re.compile(rb"[\w$\x80-\xff]{1,64}|[^\w$\x80-\xff]")
+_MAY_STAND_BEFORE = b" \t\n\v\f\r(,=<>+-*/%&|^~"
+"""The bytes directly before which a place stands alone, if one does so behind it too."""
 _NO_NAME = re.compile(rb"[\x80-\xff]")
 _WORD = re.compile(rb"[A-Za-z0-9_]*[\x80-\xff][A-Za-z0-9_\x80-\xff]*")
 _WORD_WITHOUT_NAME = re.compile(rb":([\x80-\xff][A-Za-z0-9_\x80-\xff]*)")
+
+
+def _which(place: int, name: Optional[str]) -> str:
+    """Return what messages call a place: its name, or its number from 0."""
+    return f"place {place}" if name is None else f"`:{name}`"
+
+
+def _beside(query: bytes, begin: int, end: int) -> bytes:
+    """Return the word or the byte that a place touches, which is from one byte of a query to another."""
+    before = query[max(0, begin - 64) : begin]
+    if before and before[-1] not in _MAY_STAND_BEFORE:
+        found = _WORD_BEFORE.search(before)
+    else:
+        found = _WORD_AFTER.match(query, end)
+    return b"" if found is None else found.group()
 
 
 class Error(Exception):
@@ -134,14 +153,14 @@ class RepeatedNameError(FormError):
     number = 7
     name: bytes
     _fields: tuple[str, ...] = ("parameter", "position", "name")
-    _text = "Redefinition of named parameter `{name}'"
+    _text = "`:{name}` is given twice"
 
 
 class MixedError(Error):
     """The query has names and marks."""
 
     number = 8
-    _text = "Named and positional params in one query"
+    _text = "The query has both `:name` and `?`: write one of them everywhere"
 
 
 class MissingError(_WordError):
@@ -156,7 +175,7 @@ class MissingError(_WordError):
     position: int
     name: bytes
     _fields: tuple[str, ...] = ("place", "position", "name")
-    _text = "Missing named parameter `{name}` for statement"
+    _text = "`:{name}` has no value"
 
     def _look_at(self, query: bytes) -> None:
         """Take the word that begins with the name."""
@@ -167,7 +186,7 @@ class NamedForPositionalError(_WordError):
     """The parameters have names, and the query has none."""
 
     number = 10
-    _text = "Named params given where positional params are expected"
+    _text = "The values have names, and the query has none"
     _hint: str = ""
 
     def _look_at(self, query: bytes) -> None:
@@ -185,7 +204,7 @@ class PositionalForNamedError(Error):
     """The parameters have no names, and the query has some."""
 
     number = 11
-    _text = "Positional params given where named params are expected"
+    _text = "The values are in order, and the query has names: give a dict"
 
 
 class MarkCountError(Error):
@@ -195,13 +214,13 @@ class MarkCountError(Error):
     marks: int
     values: int
     _fields: tuple[str, ...] = ("marks", "values")
-    _text = "Query has {marks} marks and {values} values"
+    _text = "The query has {marks} `?`, and {values} values are given"
     _hint: str = ""
 
     def _look_at(self, query: bytes) -> None:
         """See whether the query has what other libraries take for a mark, or one mark for many values."""
         if self.marks == 0 and b"%s" in query:
-            self._hint = ": a mark is `?`, and not `%s`"
+            self._hint = ": a place is `?`, and not `%s`"
         elif self.marks == 1 and self.values > 1 and _PLACE_OF_MANY.search(query):
             self._hint = ": for one `?` hand in a list of one, as `[ids]` or `[rows]`"
 
@@ -216,19 +235,25 @@ class NotAloneError(_WordError):
     place: int
     position: int
     _fields: tuple[str, ...] = ("place", "position")
-    _text = "Place {place} at byte {position} does not stand alone"
-    _hint: str = ""
+    _touches: str = ""
+    _to_do: str = ": put a space between"
 
     def _look_at(self, query: bytes) -> None:
-        """Take the word that begins with the place's name, if it has one; else see whether a point stands beside it."""
-        if query[self.position : self.position + 1] == b":":
-            self._take(_WORD.match(query, self.position + 1))
+        """Take the place as it is written, what it touches, and the word that begins with its name, if it has one."""
         found = _PLACE_AT.match(query, self.position)
-        if found is not None and b"." in (query[found.start() - 1 : found.start()], query[found.end() : found.end() + 1]):
-            self._hint = ': for a name with a point write one place, and give an Identifier of two names, as Identifier("b", "c")'
+        if found is None:
+            return
+        beside = _beside(query, *found.span())
+        self._touches = f"`{_show(found.group())}` at byte {self.position} touches `{_show(beside)}`"
+        if found.group() != b"?":
+            self._take(_WORD.match(query, self.position + 1))
+            self._to_do += ", or behind the colon of a label"
+        if beside == b".":
+            self._to_do = ': for a name with a point write one place, and give an Identifier of two names, as Identifier("b", "c")'
 
     def _more(self) -> str:
-        return super()._more() or self._hint
+        touches = self._touches or f"Place {self.place} at byte {self.position} touches what stands beside it"
+        return touches + (super()._more() or self._to_do)
 
 
 class FloatError(Error):
@@ -241,13 +266,11 @@ class FloatError(Error):
     number = 14
     place: int
     _fields: tuple[str, ...] = ("place",)
-    _text = "Float at place {place}"
     name: Optional[str] = None
     """The name that stands in that place. None for a ``?``."""
 
     def _more(self) -> str:
-        which = "" if self.name is None else f": the value of `:{self.name}`"
-        return f"{which}; give None for NaN and infinities, else a text"
+        return f"The value for {_which(self.place, self.name)} is a float: give None for NaN and infinities, else a text"
 
 
 class UnsteadyError(Error):
@@ -257,7 +280,7 @@ class UnsteadyError(Error):
     position: int
     _fields: tuple[str, ...] = ("position",)
     _text = (
-        "Backslash or byte that is not ASCII at byte {position} of the query: "
+        "Byte {position} of the query is a backslash or is not ASCII: "
         "over utf8mb4 bind_in_both_modes takes it, except a backslash in a string"
     )
 
@@ -268,7 +291,7 @@ class BackslashError(Error):
     number = 18
     position: int
     _fields: tuple[str, ...] = ("position",)
-    _text = "Backslash in a string at byte {position} of the query"
+    _text = "A string of the query has a backslash at byte {position}"
 
 
 class UnportableError(Error):
@@ -315,16 +338,16 @@ class Fault(enum.IntEnum):
 
 
 _FAULTS = {
-    Fault.EMPTY: "it is empty",
-    Fault.EMPTY_ROW: "row {in_row} is empty",
-    Fault.ROW_LENGTH: "row {in_row} is not as long as the first",
-    Fault.NUMBER: "item {item} of row {in_row} is no exact number",
-    Fault.EMPTY_NAME: "name {item} is empty",
-    Fault.ZERO_BYTE: "name {item} has a byte 0",
-    Fault.LONG_NAME: "name {item} has more than 64 characters",
-    Fault.TRAILING_SPACE: "name {item} ends in a space",
-    Fault.KEYWORD: "it is none of the keywords in capitals that KEYWORDS lists",
-    Fault.BACKSLASH: "name {item} has a backslash before a backquote or at its end",
+    Fault.EMPTY: "The list for {which} is empty",
+    Fault.EMPTY_ROW: "Row {in_row} for {which} is empty",
+    Fault.ROW_LENGTH: "Row {in_row} for {which} is not as long as the first",
+    Fault.NUMBER: "Item {item} of row {in_row} for {which} is no exact number",
+    Fault.EMPTY_NAME: "Name {item} for {which} is empty",
+    Fault.ZERO_BYTE: "Name {item} for {which} has a byte 0",
+    Fault.LONG_NAME: "Name {item} for {which} has more than 64 characters",
+    Fault.TRAILING_SPACE: "Name {item} for {which} ends in a space",
+    Fault.KEYWORD: "The word for {which} is none of the keywords in capitals that KEYWORDS lists",
+    Fault.BACKSLASH: "Name {item} for {which} has a backslash before a backquote or at its end",
 }
 
 
@@ -341,13 +364,11 @@ class FragmentError(Error):
     in_row: int
     item: int
     _fields: tuple[str, ...] = ("place", "fault", "in_row", "item")
-    _text = "Fragment at place {place} can't be written"
     name: Optional[str] = None
     """The name that stands in that place. None for a ``?``."""
 
     def _more(self) -> str:
-        fault = _FAULTS[self.fault].format(in_row=self.in_row, item=self.item)
-        return f": {fault}" if self.name is None else f": {fault}: the value of `:{self.name}`"
+        return _FAULTS[self.fault].format(which=_which(self.place, self.name), in_row=self.in_row, item=self.item)
 
 
 class UnsteadyFragmentError(Error):
@@ -356,12 +377,11 @@ class UnsteadyFragmentError(Error):
     number = 19
     place: int
     _fields: tuple[str, ...] = ("place",)
-    _text = "Fragment at place {place} has a name with a backslash or a byte that is not ASCII"
     name: Optional[str] = None
     """The name that stands in that place. None for a ``?``."""
 
     def _more(self) -> str:
-        return "" if self.name is None else f": the value of `:{self.name}`"
+        return f"A name for {_which(self.place, self.name)} has a backslash or a character that is not ASCII"
 
 
 _ERRORS: dict[int, type[Error]] = {
