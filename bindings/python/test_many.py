@@ -214,10 +214,10 @@ class Test(unittest.TestCase):
     def test_rows_with_other_names(self):
         first = {"id": 1, "name": "a"}
         for row, kind, message in (
-            ({"id": 1}, ValueError, "row {} lacks the name 'name' of the first row"),
-            ({"id": 1, "Name": 2}, ValueError, "row {} lacks the name 'name' of the first row"),
-            ({"id": 1, "name": 2, "b": 3}, ValueError, "row {} has the name 'b', which the first row lacks"),
-            ((1, 2), TypeError, "row {} is a tuple, and the first row has names"),
+            ({"id": 1}, ValueError, "row {}: it lacks the name 'name' of the first row"),
+            ({"id": 1, "Name": 2}, ValueError, "row {}: it lacks the name 'name' of the first row"),
+            ({"id": 1, "name": 2, "b": 3}, ValueError, "row {}: it has the name 'b', which the first row lacks"),
+            ((1, 2), TypeError, "row {}: it is a tuple, and the first row has names"),
         ):
             for at in (1, 2_000):
                 with self.subTest(row=row, at=at):
@@ -338,7 +338,7 @@ class Test(unittest.TestCase):
         for row in ("ab", b"ab", {1: 2}, {1}, 7, None):
             found = self.refused(TypeError, execute_rows, ROWS, [(1, 2), row])
             self.assertEqual(found.row, 1)
-            self.assertEqual(str(found), f"a row is a list or a tuple of values, and not {type(row).__name__}")
+            self.assertEqual(str(found), f"row 1: a row is a list or a tuple of values, and not {type(row).__name__}")
         self.assertIn("in a row: rows are of values", str(self.refused(TypeError, execute_rows, ROWS, [([1], 2)])))
 
     def test_queries_with_another_number_of_places(self):

@@ -137,6 +137,16 @@ def sent(cursor: Any, connection: Any, day: datetime.datetime) -> None:
         print(error.length - error.most)
     except mysql_params.DelimiterError as error:
         print(error.position + 1)
+    except mysql_params.ProgrammingError as error:
+        print(error.number, error.row)
+    try:
+        mysql_params.exec_driver_sql(connection, QUERY)
+    except mysql_params.EncodingError as error:
+        print(error.variable + error.value)
+    except mysql_params.DataError as error:
+        kind: mysql_params.DatabaseError = error
+        anything: mysql_params.Error = kind
+        print(anything)
 
 
 def answers() -> None:

@@ -35,7 +35,13 @@ from ._sending import DelimiterError, EncodingError, PacketError, SessionError, 
 from ._template import Template
 from ._values import decimal_text, register
 from .errors import (
+    ArgumentEncodeError,
+    ArgumentOverflowError,
+    ArgumentTypeError,
+    ArgumentValueError,
     BackslashError,
+    DatabaseError,
+    DataError,
     Error,
     Fault,
     FloatError,
@@ -50,8 +56,12 @@ from .errors import (
     MixedError,
     NamedForPositionalError,
     NotAloneError,
+    OperationalError,
     OutOfMemoryError,
     PositionalForNamedError,
+    ProgrammingError,
+    QueryDecodeError,
+    QueryPlacesError,
     RepeatedNameError,
     UnportableError,
     UnsteadyError,
@@ -62,9 +72,15 @@ from .portable import Construct, Unportable
 __version__ = "0.1.0"
 
 __all__ = [
+    "ArgumentEncodeError",
+    "ArgumentOverflowError",
+    "ArgumentTypeError",
+    "ArgumentValueError",
     "Assignments",
     "BackslashError",
     "Construct",
+    "DataError",
+    "DatabaseError",
     "DelimiterError",
     "EncodingError",
     "Error",
@@ -85,10 +101,14 @@ __all__ = [
     "NamedForPositionalError",
     "Names",
     "NotAloneError",
+    "OperationalError",
     "OutOfMemoryError",
     "PacketError",
     "Params",
     "PositionalForNamedError",
+    "ProgrammingError",
+    "QueryDecodeError",
+    "QueryPlacesError",
     "RepeatedNameError",
     "SessionError",
     "Template",
@@ -152,7 +172,7 @@ Params = Union[
 ]
 """Nothing, values in order, or values by name. No values are as nothing.
 
-A value is a Value, or of a type that is registered, or what bind takes beside them; anything else is a TypeError of the
+A value is a Value, or of a type that is registered, or what bind takes beside them; anything else is an ArgumentTypeError of the
 call. The annotation says less, since to mypy ``{"id": 42, "name": "x"}`` is a ``dict[str, object]``. Its last
 mapping is for ``{}``, of which mypy finds no types. Annotate your own by Value:
 ``params: dict[str, Value] = {}``.
@@ -234,12 +254,13 @@ def bind(
     numbers. A str, bytes or a set is no list.
 
     A datetime with a time zone is refused, unless zone is given, which is that of the connection (@@time_zone): then it
-    is bound as the clocks there show it; ValueError for one that they show twice, or never. One without a zone is bound
+    is bound as the clocks there show it; ArgumentValueError for one that they show twice, or never. One without a zone is bound
     as it is.
 
-    Of the parameters: raise TypeError for what has no literal, OverflowError for a whole number of more than 65 digits,
-    ValueError for a Decimal of more, for one that is no number, and for an empty name, UnicodeEncodeError for a str with a lone surrogate (also for a query that is one),
-    RepeatedNameError for a name given as str and as bytes. Then, of the query, the first that holds: MixedError;
+    Of the parameters: raise ArgumentTypeError, which is a TypeError, for what has no literal; ArgumentOverflowError, an
+    OverflowError, for a whole number of more than 65 digits; ArgumentValueError, a ValueError, for a Decimal of more, for
+    one that is no number, and for an empty name; ArgumentEncodeError, a UnicodeEncodeError, for a str with a lone
+    surrogate (also for a query that is one); RepeatedNameError for a name given as str and as bytes. Then, of the query, the first that holds: MixedError;
     MissingError, NamedForPositionalError or PositionalForNamedError; MarkCountError; NotAloneError; FloatError;
     FragmentError, as for an empty list or rows of two lengths. In place of any of them, and of a text,
     OutOfMemoryError.

@@ -19,7 +19,7 @@ except ModuleNotFoundError as fault:
     ) from fault
 
 from . import _form, _fragments, _native, _values
-from .errors import _ERRORS, Error, Fault, FloatError, FragmentError, OutOfMemoryError, RepeatedNameError
+from .errors import _ERRORS, ArgumentTypeError, Error, Fault, FloatError, FragmentError, OutOfMemoryError, RepeatedNameError
 from .errors import UnsteadyFragmentError
 from .portable import Construct, Unportable
 
@@ -41,7 +41,7 @@ def flag(mode: object) -> bool:
     """Return the mode of a call. The truth of another object may be the wrong mode."""
     if mode is True or mode is False:
         return mode
-    raise TypeError(f"no_backslash_escape is True or False, and not of type {type(mode).__name__}")
+    raise ArgumentTypeError(f"no_backslash_escape is True or False, and not of type {type(mode).__name__}")
 
 
 class Tables:

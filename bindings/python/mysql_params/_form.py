@@ -9,7 +9,7 @@ from collections.abc import Iterable, Iterator, Mapping
 from typing import Optional, Union
 
 from ._values import in_zone, is_ambiguous, plain
-from .errors import _show
+from .errors import ArgumentEncodeError, ArgumentOverflowError, ArgumentTypeError, ArgumentValueError, _show
 
 # Numbers of column types in the protocol, and the flag that says unsigned.
 _DOUBLE, _NULL, _LONGLONG, _TIME, _DATETIME, _VAR_STRING = 5, 6, 8, 11, 12, 253
@@ -33,10 +33,13 @@ def _cast(which: Union[bytes, int], digits: str) -> str:
 def bytes_of(text: object) -> bytes:
     """Return the bytes of a text: those of its UTF-8 if it is a str."""
     if isinstance(text, str):
-        return str.encode(text)
+        try:
+            return str.encode(text)
+        except UnicodeEncodeError as fault:
+            raise ArgumentEncodeError(*fault.args) from None
     if isinstance(text, (bytes, bytearray, memoryview)):
         return copy(text)
-    raise TypeError(f"a str or bytes are wanted, and not {type(text).__name__}")
+    raise ArgumentTypeError(f"a str or bytes are wanted, and not {type(text).__name__}")
 
 
 def copy(source: object) -> bytes:
@@ -47,7 +50,7 @@ def copy(source: object) -> bytes:
         return bytes(bytearray.__getitem__(source, slice(None)))
     if isinstance(source, memoryview):
         return memoryview.tobytes(source)
-    raise TypeError(f"bytes are wanted, and not {type(source).__name__}")
+    raise ArgumentTypeError(f"bytes are wanted, and not {type(source).__name__}")
 
 
 def string_form(string: bytes) -> bytes:
@@ -66,7 +69,7 @@ def _int_form(number: int, which: Union[bytes, int]) -> bytes:
     if 0 <= number < 1 << 64:
         return struct.pack("<BBQ", _LONGLONG, _UNSIGNED, number)
     bare = "which bind, bind_anywhere and the calls that send write bare, where a place takes more than a value"
-    raise OverflowError(f"{place(which)} is a whole number of more than 64 bits, {bare}: {_cast(which, '65,0')}")
+    raise ArgumentOverflowError(f"{place(which)} is a whole number of more than 64 bits, {bare}: {_cast(which, '65,0')}")
 
 
 def _shown(
@@ -76,13 +79,13 @@ def _shown(
     try:
         shown = in_zone(moment, zone)
     except OverflowError:
-        raise ValueError(f"{place(which)} is a datetime that is outside of the years 1 to 9999 in the zone") from None
+        raise ArgumentValueError(f"{place(which)} is a datetime that is outside of the years 1 to 9999 in the zone") from None
     if shown is None:
         to_do = "convert it to a naive one, or hand in zone=.., the session's"
-        raise TypeError(f"{place(which)} is a datetime with a time zone: {to_do}")
+        raise ArgumentTypeError(f"{place(which)} is a datetime with a time zone: {to_do}")
     if is_ambiguous(shown, zone):
         to_do = "bind it in a session whose zone is UTC"
-        raise ValueError(f"{place(which)} is a datetime that the clocks of the zone show twice, or never: {to_do}")
+        raise ArgumentValueError(f"{place(which)} is a datetime that the clocks of the zone show twice, or never: {to_do}")
     return shown.replace(tzinfo=None)
 
 
@@ -111,9 +114,7 @@ def _text_form(text: str, which: Union[bytes, int]) -> bytes:
     try:
         return bytes([_VAR_STRING, 0]) + string_form(str.encode(text))
     except UnicodeEncodeError as fault:
-        raise UnicodeEncodeError(
-            fault.encoding, fault.object, fault.start, fault.end, f"{fault.reason}, in {place(which)}"
-        ) from None
+        raise ArgumentEncodeError(*fault.args[:-1], f"{fault.reason}, in {place(which)}") from None
 
 
 def _known_form(value: object, which: Union[bytes, int], zone: Optional[datetime.tzinfo]) -> Union[bytes, None]:
@@ -148,22 +149,22 @@ def value_form(value: object, which: Union[bytes, int], zone: Optional[datetime.
         return form
     kind = type(value).__name__
     if isinstance(value, decimal.Decimal):
-        raise TypeError(f"{place(which)} is a {kind}, which has no literal: {_cast(which, '20,2')}")
+        raise ArgumentTypeError(f"{place(which)} is a {kind}, which has no literal: {_cast(which, '20,2')}")
     if isinstance(value, (list, tuple, set, frozenset)):
-        raise TypeError(f"{place(which)} is a {kind}, which has no literal: write a place for each of its values")
+        raise ArgumentTypeError(f"{place(which)} is a {kind}, which has no literal: write a place for each of its values")
     if isinstance(value, datetime.time):
-        raise TypeError(f"{place(which)} is a {kind} with a time zone, which has no literal")
+        raise ArgumentTypeError(f"{place(which)} is a {kind} with a time zone, which has no literal")
     to_do = ": give json.dumps(..) of it, or register(dict, json.dumps)" if isinstance(value, dict) else ""
-    raise TypeError(f"{place(which)} is of type {kind}, which has no literal{to_do}")
+    raise ArgumentTypeError(f"{place(which)} is of type {kind}, which has no literal{to_do}")
 
 
 def name_of(name: object, number: int) -> bytes:
     """Return the bytes of a name, of the parameter of a number."""
     if not isinstance(name, (str, bytes)):
-        raise TypeError(f"a name is str or bytes, and that of parameter {number} is of type {type(name).__name__}")
+        raise ArgumentTypeError(f"a name is str or bytes, and that of parameter {number} is of type {type(name).__name__}")
     own = bytes_of(name)
     if not own:
-        raise ValueError(f"Parameter {number} has an empty name")
+        raise ArgumentValueError(f"Parameter {number} has an empty name")
     return own
 
 
@@ -173,4 +174,4 @@ def parameters(params: object) -> tuple[bool, Iterator[object]]:
         return True, ((name, value) for name, value in params.items())
     if isinstance(params, Iterable) and not isinstance(params, (str, bytes, bytearray, memoryview, set, frozenset)):
         return False, iter(params)
-    raise TypeError(f"parameters are None, values in order or a mapping, and not {type(params).__name__}")
+    raise ArgumentTypeError(f"parameters are None, values in order or a mapping, and not {type(params).__name__}")

@@ -12,7 +12,7 @@ from typing import Any, Optional, Union, overload
 
 from . import _form
 from ._values import decimal_text, plain
-from .errors import _show
+from .errors import ArgumentEncodeError, ArgumentOverflowError, ArgumentTypeError, ArgumentValueError, _show
 
 # The types of the flat form that are no column types: see mysql_params_bind_fragments in mysql_params.h.
 _NUMBER, _LIST, _ROWS, _IDENTIFIER, _QUALIFIED, _KEYWORD, _IDENTIFIERS, _ASSIGNMENTS = range(128, 136)
@@ -38,7 +38,7 @@ class Identifier:
     def __init__(self, *parts: str) -> None:
         """Take the names, of which there is at least one."""
         if not parts or not all(isinstance(part, str) for part in parts):
-            raise TypeError("an Identifier is made of one or more names, which are str")
+            raise ArgumentTypeError("an Identifier is made of one or more names, which are str")
         self.parts = parts
 
     def __repr__(self) -> str:
@@ -83,12 +83,12 @@ class Assignments:
 def _pair(pair: object) -> tuple[Identifier, object]:
     """Return a column and what it is set to."""
     if not isinstance(pair, (tuple, list)) or len(pair) != 2:
-        raise TypeError("Assignments are made of a mapping, or of pairs of a column and a value")
+        raise ArgumentTypeError("Assignments are made of a mapping, or of pairs of a column and a value")
     column, value = pair
     if isinstance(column, str):
         column = Identifier(column)
     if not issubclass(type(column), Identifier):
-        raise TypeError(f"a column is a str or an Identifier, and not {type(column).__name__}")
+        raise ArgumentTypeError(f"a column is a str or an Identifier, and not {type(column).__name__}")
     return column, value
 
 
@@ -119,10 +119,10 @@ class Keyword:
     def __init__(self, word: str, among: Iterable[str]) -> None:
         """Take the keyword, and those that it has to be among."""
         if not isinstance(word, str) or isinstance(among, str):
-            raise TypeError("a Keyword is a str, and among are several")
+            raise ArgumentTypeError("a Keyword is a str, and among are several")
         choice = tuple(among)
         if word not in choice:
-            raise ValueError(f"the word is none of the keywords {', '.join(map(repr, choice))}")
+            raise ArgumentValueError(f"the word is none of the keywords {', '.join(map(repr, choice))}")
         self.word = word
 
     def __repr__(self) -> str:
@@ -141,9 +141,7 @@ def _text(text: str, which: Union[bytes, int]) -> bytes:
     try:
         return _form.string_form(str.encode(text))
     except UnicodeEncodeError as fault:
-        raise UnicodeEncodeError(
-            fault.encoding, fault.object, fault.start, fault.end, f"{fault.reason}, in {_form.place(which)}"
-        ) from None
+        raise ArgumentEncodeError(*fault.args[:-1], f"{fault.reason}, in {_form.place(which)}") from None
 
 
 def _count(number: int) -> bytes:
@@ -162,11 +160,11 @@ def _number(value: decimal.Decimal, which: Union[bytes, int]) -> bytes:
     try:
         text = decimal_text(value)
     except ValueError as fault:
-        raise ValueError(f"{_form.place(which)}: {fault}") from None
+        raise ArgumentValueError(f"{_form.place(which)}: {fault}") from None
     digits = len(text) - text.count("-") - text.count(".")
     if digits > _MOST_DIGITS:
         to_do = f"servers keep {_MOST_DIGITS}, so round it, as by quantize"
-        raise ValueError(f"{_form.place(which)}: a Decimal of {digits} digits: {to_do}")
+        raise ArgumentValueError(f"{_form.place(which)}: a Decimal of {digits} digits: {to_do}")
     return bytes([_NUMBER, 0]) + _text(text, which)
 
 
@@ -178,7 +176,8 @@ def _wide_number(value: object, which: Union[bytes, int]) -> Optional[bytes]:
     if _LEAST <= number <= _MOST:
         return None
     if not -_BEYOND < number < _BEYOND:
-        raise OverflowError(f"{_form.place(which)} is a whole number of more than {_MOST_DIGITS} digits: servers keep no more")
+        digits = f"more than {_MOST_DIGITS} digits: servers keep no more"
+        raise ArgumentOverflowError(f"{_form.place(which)} is a whole number of {digits}")
     return bytes([_NUMBER, 0]) + _text(str(number), which)
 
 
@@ -188,10 +187,10 @@ def item_form(value: object, which: Union[bytes, int], zone: Optional[datetime.t
     if isinstance(value, decimal.Decimal):
         return _number(value, which)
     if isinstance(value, (list, tuple)):
-        raise TypeError(f"{_form.place(which)} has a {type(value).__name__} in a row: rows are of values")
+        raise ArgumentTypeError(f"{_form.place(which)} has a {type(value).__name__} in a row: rows are of values")
     if isinstance(value, (Identifier, Assignments, Keyword)):
         to_do = "lists and rows are of values, or a list of Identifiers alone, so write a place for each"
-        raise TypeError(f"{_form.place(which)} has an item that is of type {type(value).__name__}: {to_do}")
+        raise ArgumentTypeError(f"{_form.place(which)} has an item that is of type {type(value).__name__}: {to_do}")
     wide = _wide_number(value, which)
     return _form.value_form(value, which, zone) if wide is None else wide
 
@@ -231,7 +230,7 @@ def _list(
     rows = [value for value in values if isinstance(value, (list, tuple))]
     if rows:
         if len(rows) < len(values):
-            raise TypeError(f"{_form.place(which)} has rows and values: give a list of values, or one of rows alone")
+            raise ArgumentTypeError(f"{_form.place(which)} has rows and values: give a list of values, or one of rows alone")
         return rows_form([_items(row, which, zone) for row in rows])
     values = (*map(plain, values[:1]), *values[1:])
     identifiers = _identifiers(values, which)
@@ -248,7 +247,7 @@ def _assignments(
         if issubclass(type(value), (list, tuple, Identifier, Assignments, Keyword)):
             names = ".".join(f"`{_show(part.encode(errors='backslashreplace'))}`" for part in column.parts)
             kind = type(value).__name__
-            raise TypeError(f"{_form.place(which)} sets {names} to a value of type {kind}: a column takes one value")
+            raise ArgumentTypeError(f"{_form.place(which)} sets {names} to a value of type {kind}: a column takes one value")
         made.append(_names(column.parts, which) + item_form(value, which, zone))
     return bytes([_ASSIGNMENTS, 0]) + _count(len(made)) + b"".join(made)
 
@@ -283,8 +282,8 @@ def place_form(value: object, which: Union[bytes, int], zone: Optional[datetime.
         return made
     if issubclass(type(value), dict):
         to_do = "for SET give Assignments(..) of it, else json.dumps(..) of it, or register(dict, json.dumps)"
-        raise TypeError(f"{_form.place(which)} is of type {type(value).__name__}, which has no literal: {to_do}")
+        raise ArgumentTypeError(f"{_form.place(which)} is of type {type(value).__name__}, which has no literal: {to_do}")
     if issubclass(type(value), Iterable) and not issubclass(type(value), _NO_LISTS):
         kind = type(value).__name__
-        raise TypeError(f"{_form.place(which)} is a {kind}, which is no list: give list(..) of it")
+        raise ArgumentTypeError(f"{_form.place(which)} is a {kind}, which is no list: give list(..) of it")
     return _form.value_form(value, which, zone)

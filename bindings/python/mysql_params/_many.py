@@ -11,7 +11,7 @@ from . import _archive, _form, _native
 from ._fragments import rows_form
 from ._sending import Told, connection_of, expect_as_told, forget_after, leaves_session, told_for
 from ._values import zone_of
-from .errors import Error, FloatError, FragmentError, MarkCountError
+from .errors import ArgumentTypeError, ArgumentValueError, Error, FloatError, FragmentError, MarkCountError, QueryPlacesError
 
 
 def _texts(query: bytes, told: Told, rows: Iterable[object], zone: Optional[datetime.tzinfo]) -> list[bytes]:
@@ -114,10 +114,10 @@ _LONGEST_TEXT = 1 << 24
 """How long a text of many rows may get, if the server would take a longer one."""
 
 
-def _another_query(places: str) -> ValueError:
+def _another_query(places: str) -> QueryPlacesError:
     """Return what to raise for a query that hasn't one place for the rows."""
     to_do = "for a place for each value take executemany"
-    return ValueError(f"a query with one place is wanted, which takes the rows, and it has {places}: {to_do}")
+    return QueryPlacesError(f"a query with one place is wanted, which takes the rows, and it has {places}: {to_do}")
 
 
 _ONE_NULL = b"\x01\0\0\0\x06\0"
@@ -129,7 +129,7 @@ class _Beside:
 
     def __init__(self, params: object, zone: Optional[datetime.tzinfo]) -> None:
         if params is not None and not isinstance(params, Mapping):
-            raise TypeError(f"parameters beside rows are by name, in a mapping, and not {type(params).__name__}")
+            raise ArgumentTypeError(f"parameters beside rows are by name, in a mapping, and not {type(params).__name__}")
         held = {} if params is None else dict(params)
         self.names = {_form.name_of(name, number) for number, name in enumerate(held)}
         self.form = _native.written(held, zone, True)[0]
@@ -144,7 +144,8 @@ class _Beside:
         others = [name.encode() for name in names if name.encode() not in self.names]
         if len(others) != 1:
             have = f"{len(others)} places without a parameter" if names else "no name"
-            raise ValueError(f"with parameters beside the rows one name is wanted, which takes the rows, and the query has {have}")
+            wanted = "with parameters beside the rows one name is wanted, which takes the rows"
+            raise QueryPlacesError(f"{wanted}, and the query has {have}")
         return others[0]
 
 
@@ -193,13 +194,13 @@ class _Gatherer:
         if self.columns is None:
             return row
         if not isinstance(row, Mapping):
-            raise TypeError(f"row {self.count} is a {type(row).__name__}, and the first row has names")
+            raise ArgumentTypeError(f"it is a {type(row).__name__}, and the first row has names")
         for name in self.columns:
             if name not in row:
-                raise ValueError(f"row {self.count} lacks the name {name!r} of the first row")
+                raise ArgumentValueError(f"it lacks the name {name!r} of the first row")
         if len(row) != len(self.columns):
             other = next(name for name in row if name not in self.columns)
-            raise ValueError(f"row {self.count} has the name {other!r}, which the first row lacks")
+            raise ArgumentValueError(f"it has the name {other!r}, which the first row lacks")
         return [row[name] for name in self.columns]
 
     def bind_gathered(self) -> None:
@@ -242,7 +243,7 @@ def _row(row: object, which: Union[bytes, int], zone: Optional[datetime.tzinfo])
     if type(row) is tuple or type(row) is list:
         return _native.row_items(row, which, zone)
     if isinstance(row, (str, bytes, bytearray, memoryview, set, frozenset, Mapping)) or not isinstance(row, Iterable):
-        raise TypeError(f"a row is a list or a tuple of values, and not {type(row).__name__}")
+        raise ArgumentTypeError(f"a row is a list or a tuple of values, and not {type(row).__name__}")
     return _native.row_items(row, which, zone)
 
 
@@ -269,8 +270,8 @@ def execute_rows(
     its own: for all or none begin a transaction. All are bound before the first is sent: if one is refused, nothing was sent. No
     rows send nothing. The cursor's rowcount is the last text's.
 
-    Raise as execute, and ValueError for a query without just one place for the rows. A FragmentError's `in_row`, and the `row` of
-    another refusal of a row, is the row's number from 0 among all.
+    Raise as execute, and QueryPlacesError for a query without just one place for the rows. A FragmentError's `in_row`, and
+    the `row` of another refusal of a row, is the row's number from 0 among all.
     """
     connection, query = connection_of(cursor), _form.bytes_of(query)
     beside = _Beside(params, zone_of(zone))

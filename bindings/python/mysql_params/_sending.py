@@ -10,7 +10,7 @@ from typing import Any, NamedTuple, Optional, Union
 
 from . import _archive, _form, _native
 from ._drivers import Signs, encoding_of, makers, may_rewrite, signs_of
-from .errors import Error, UnportableError
+from .errors import ArgumentTypeError, DataError, Error, ProgrammingError, QueryDecodeError, UnportableError
 from .portable import Unportable
 
 _QUESTION = (
@@ -21,7 +21,7 @@ _QUESTION = (
 _KEPT = "_mysql_params_told"
 """The attribute of a connection that keeps what it answered, with the driver's own signs of that moment."""
 
-class SessionError(Error):
+class SessionError(ProgrammingError):
     """The connection isn't one that a bound text is for: its `variable` has the value `value`.
 
     Of executemany and execute_rows it is ``sql_mode`` if a text that was sent changed that.
@@ -54,7 +54,7 @@ class EncodingError(SessionError):
         return f"The driver's {self.variable} is {self.value}, and has to be UTF-8: connect with charset='utf8mb4'"
 
 
-class PacketError(Error):
+class PacketError(DataError):
     """The text has `length` bytes, and the server takes `most`: it would end the connection."""
 
     length: int
@@ -67,7 +67,7 @@ _DELIMITER = re.compile(rb"delimiter\s", re.IGNORECASE)
 """Without it in a text MySQL Connector sends the text as it is; it looks for it in literals too."""
 
 
-class DelimiterError(Error):
+class DelimiterError(DataError):
     """The text has `delimiter` and white space at byte `position`, where MySQL Connector would cut it, in a value too."""
 
     position: int
@@ -249,14 +249,14 @@ def connection_of(cursor: Any) -> Any:
     """
     kinds = [kind.__name__ for kind in type(cursor).__mro__]
     if any("Prepared" in kind for kind in kinds):
-        raise TypeError("a cursor that prepares looks for places itself: take connection.cursor()")
+        raise ArgumentTypeError("a cursor that prepares looks for places itself: take connection.cursor()")
     for name in ("connection", "_connection", "_cnx"):
         connection = getattr(cursor, name, None)
         if connection is not None:
             if _UNBUFFERED in kinds and cursor._executed:
                 cursor.fetchall()
             return connection
-    raise TypeError(f"a cursor with an open connection is wanted, and not {type(cursor).__name__}")
+    raise ArgumentTypeError(f"a cursor with an open connection is wanted, and not {type(cursor).__name__}")
 
 
 def execute(
@@ -316,10 +316,13 @@ def exec_driver_sql(
     pooled = getattr(connection, "connection", None)
     if pooled is None or callable(pooled):
         to_do = "take engine.connect() or session.connection()"
-        raise TypeError(f"SQLAlchemy's Connection is wanted, and not {type(connection).__name__}: {to_do}")
+        raise ArgumentTypeError(f"SQLAlchemy's Connection is wanted, and not {type(connection).__name__}: {to_do}")
     own = getattr(pooled, "dbapi_connection", None)
     own, query = pooled.connection if own is None else own, _form.bytes_of(query)
-    query.decode()  # The error of bytes that aren't UTF-8 has the query, and no value.
+    try:
+        query.decode()
+    except UnicodeDecodeError as fault:
+        raise QueryDecodeError(*fault.args) from None
     text = _bound(own, query, params, zone, always_ask)
     refusal = _rewritten(encoding_of(own), text)
     if refusal is not None:

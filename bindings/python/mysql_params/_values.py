@@ -11,6 +11,8 @@ import uuid
 from collections.abc import Callable
 from typing import Any, Optional, TypeVar
 
+from .errors import ArgumentTypeError, ArgumentValueError
+
 _Kind = TypeVar("_Kind")
 
 _BOUND = frozenset(
@@ -49,12 +51,12 @@ def register(kind: type[_Kind], function: Callable[[_Kind], object]) -> None:
     b"SELECT '1/3'"
     """
     if not isinstance(kind, type):
-        raise TypeError(f"a type is wanted, and not {type(kind).__name__}")
+        raise ArgumentTypeError(f"a type is wanted, and not {type(kind).__name__}")
     if kind in _BOUND or kind is object:
         to_do = ", and bind_in_both_modes takes repr(value)" if kind is float else ""
-        raise ValueError(f"{kind.__name__} can't be registered: values of it are bound by themselves{to_do}")
+        raise ArgumentValueError(f"{kind.__name__} can't be registered: values of it are bound by themselves{to_do}")
     if not callable(function):
-        raise TypeError(f"a function is wanted, and not {type(function).__name__}")
+        raise ArgumentTypeError(f"a function is wanted, and not {type(function).__name__}")
     _REGISTERED[kind] = function
 
 
@@ -76,14 +78,14 @@ def decimal_text(value: decimal.Decimal) -> str:
     ('1000', '-0.10')
     """
     if not value.is_finite():
-        raise ValueError(f"a Decimal that is {'NaN' if value.is_nan() else 'infinite'} has no digits")
+        raise ArgumentValueError(f"a Decimal that is {'NaN' if value.is_nan() else 'infinite'} has no digits")
     first = value.adjusted()
     if -_AFTER_POINT <= first < _DIGITS:
         return format(value, "f")
     if not value:
         return "0"
     held = f"holds {_DIGITS} digits, and {_AFTER_POINT} after the point"
-    raise ValueError(f"a Decimal whose first digit stands for 1E{first:+} is beyond a DECIMAL, which {held}")
+    raise ArgumentValueError(f"a Decimal whose first digit stands for 1E{first:+} is beyond a DECIMAL, which {held}")
 
 
 def _registered(kind: type) -> Optional[Callable[[Any], object]]:
@@ -170,7 +172,7 @@ def zone_of(zone: object) -> Optional[datetime.tzinfo]:
     """Return a zone that was handed in, or None. Raise TypeError for anything else."""
     if zone is None or isinstance(zone, datetime.tzinfo):
         return zone
-    raise TypeError(f"zone is a datetime.tzinfo, as zoneinfo.ZoneInfo('UTC'), and not {type(zone).__name__}")
+    raise ArgumentTypeError(f"zone is a datetime.tzinfo, as zoneinfo.ZoneInfo('UTC'), and not {type(zone).__name__}")
 
 
 def plain(value: object) -> object:
@@ -186,4 +188,4 @@ def plain(value: object) -> object:
         if made is value:
             return value
         value = made
-    raise TypeError(f"the functions that are registered for a {type(value).__name__} make no end")
+    raise ArgumentTypeError(f"the functions that are registered for a {type(value).__name__} make no end")

@@ -44,7 +44,7 @@ def _beside(query: bytes, begin: int, end: int) -> bytes:
 
 
 class Error(Exception):
-    """A refusal. `number` is that of mysql_params.h. Numbers of places, parameters and bytes begin at 0."""
+    """A refusal. `number` is that of mysql_params.h, -1 of what the package refuses. Other numbers begin at 0."""
 
     number: int = -1
     _fields: tuple[str, ...] = ()
@@ -54,7 +54,7 @@ class Error(Exception):
     texts: Optional[list[bytes]] = None
     """Of bind_rows: the texts of the rows before it. Else None."""
 
-    def __init__(self, *values: Union[int, bytes]) -> None:
+    def __init__(self, *values: Union[int, bytes, str]) -> None:
         """Take the values of the fields, in order."""
         super().__init__(*values)
         if len(values) != len(self._fields):
@@ -65,8 +65,11 @@ class Error(Exception):
     def __str__(self) -> str:
         fields = {field: getattr(self, field) for field in self._fields}
         shown = {field: _show(value) if isinstance(value, bytes) else value for field, value in fields.items()}
-        row = "" if self.row is None else f"row {self.row}: "
-        return row + self._text.format(**shown) + self._more()
+        return self._of_row() + self._text.format(**shown) + self._more()
+
+    def _of_row(self) -> str:
+        """Return what the message says first: which row it is about."""
+        return "" if self.row is None else f"row {self.row}: "
 
     def _more(self) -> str:
         """Return what the message says after what the archive's documentation says."""
@@ -76,7 +79,68 @@ class Error(Exception):
         """Take from the query what the message tells beside the fields."""
 
 
-class _WordError(Error):
+class DatabaseError(Error):
+    """A refusal, after the hierarchy of PEP 249: each is one of the three below."""
+
+
+class ProgrammingError(DatabaseError):
+    """The query, the call or the connection has to be another."""
+
+
+class DataError(DatabaseError):
+    """A value can't be bound, or the text can't be sent."""
+
+
+class OperationalError(DatabaseError):
+    """There is no memory."""
+
+
+class _ArgumentError(DatabaseError):
+    """A refusal that is one of Python's own exceptions too, with a message of its own."""
+
+    _fields: tuple[str, ...] = ("message",)
+    _text = "{message}"
+
+
+class ArgumentTypeError(_ArgumentError, ProgrammingError, TypeError):
+    """An argument, or a value among the parameters, is of a type that isn't taken."""
+
+
+class ArgumentValueError(_ArgumentError, DataError, ValueError):
+    """A value can't be written, as a Decimal that is no number, or an argument isn't one of those that are taken."""
+
+
+class ArgumentOverflowError(_ArgumentError, DataError, OverflowError):
+    """A whole number has more digits than a server keeps, or than the call takes."""
+
+
+class QueryPlacesError(_ArgumentError, ProgrammingError, ValueError):
+    """The query of execute_rows hasn't just one place for the rows."""
+
+
+class ArgumentEncodeError(DataError, UnicodeEncodeError):
+    """A str has a lone surrogate, which has no UTF-8. Its field `object` is the str."""
+
+    def __init__(self, encoding: str, text: str, start: int, end: int, reason: str) -> None:
+        """Take what a UnicodeEncodeError takes."""
+        UnicodeEncodeError.__init__(self, encoding, text, start, end, reason)
+
+    def __str__(self) -> str:
+        return self._of_row() + UnicodeEncodeError.__str__(self)
+
+
+class QueryDecodeError(ProgrammingError, UnicodeDecodeError):
+    """A query of bytes isn't UTF-8, which has to become a str. Its field `object` is the query."""
+
+    def __init__(self, encoding: str, query: bytes, start: int, end: int, reason: str) -> None:
+        """Take what a UnicodeDecodeError takes."""
+        UnicodeDecodeError.__init__(self, encoding, query, start, end, reason)
+
+    def __str__(self) -> str:
+        return UnicodeDecodeError.__str__(self)
+
+
+class _WordError(ProgrammingError):
     """A refusal that a letter which no name has may be the cause of."""
 
     word: Optional[bytes] = None
@@ -96,7 +160,7 @@ class _WordError(Error):
             self.word = found[found.re.groups]
 
 
-class OutOfMemoryError(Error, MemoryError):
+class OutOfMemoryError(OperationalError, MemoryError):
     """There was no memory for the call or for the room of its answer. It may come in place of any other result.
 
     Where Python itself has none for an object, as the form of the parameters, it raises a MemoryError, of which this is
@@ -107,7 +171,7 @@ class OutOfMemoryError(Error, MemoryError):
     _text = "out of memory"
 
 
-class FormError(Error):
+class FormError(DataError):
     """A parameter of a flat form can't be taken: `parameter` is its number, `position` its first byte in the form."""
 
     parameter: int
@@ -156,7 +220,7 @@ class RepeatedNameError(FormError):
     _text = "`:{name}` is given twice"
 
 
-class MixedError(Error):
+class MixedError(ProgrammingError):
     """The query has names and marks."""
 
     number = 8
@@ -200,14 +264,14 @@ class NamedForPositionalError(_WordError):
         return super()._more() + self._hint
 
 
-class PositionalForNamedError(Error):
+class PositionalForNamedError(ProgrammingError):
     """The parameters have no names, and the query has some."""
 
     number = 11
     _text = "The values are in order, and the query has names: give a dict"
 
 
-class MarkCountError(Error):
+class MarkCountError(ProgrammingError):
     """The query has `marks` marks, and `values` values are given."""
 
     number = 12
@@ -256,7 +320,7 @@ class NotAloneError(_WordError):
         return touches + (super()._more() or self._to_do)
 
 
-class FloatError(Error):
+class FloatError(DataError):
     """The value for the place `place` is a NaN or an infinity, which no number says: give None for NULL.
 
     bind_in_both_modes and the calls of a flat form write no float, also no finite one: give ``repr(value)``, a text with
@@ -273,7 +337,7 @@ class FloatError(Error):
         return f"The value for {_which(self.place, self.name)} is a float: give None for NaN and infinities, else a text"
 
 
-class UnsteadyError(Error):
+class UnsteadyError(ProgrammingError):
     """The query has a backslash or a byte from 128 on: `position` is the first. It is of bind_anywhere alone."""
 
     number = 15
@@ -285,7 +349,7 @@ class UnsteadyError(Error):
     )
 
 
-class BackslashError(Error):
+class BackslashError(ProgrammingError):
     """A string of the query holds a backslash: `position` is the first. It is of bind_in_both_modes alone."""
 
     number = 18
@@ -294,7 +358,7 @@ class BackslashError(Error):
     _text = "A string of the query has a backslash at byte {position}"
 
 
-class UnportableError(Error):
+class UnportableError(ProgrammingError):
     """The query isn't portable: `construct` is the first, and begins at `position`. The message says what to write.
 
     Servers read some constructs in different ways, like ``/*! :a */`` and ``/*!STRAIGHT_JOIN */``. A quiet comment, in which
@@ -351,7 +415,7 @@ _FAULTS = {
 }
 
 
-class FragmentError(Error):
+class FragmentError(DataError):
     """What isn't one value, as a list or an Identifier, for the place `place` can't be written.
 
     `fault` says why, `in_row` in which row, and `item` in which item, assignment or name, of all names; if there is none they
@@ -371,7 +435,7 @@ class FragmentError(Error):
         return _FAULTS[self.fault].format(which=_which(self.place, self.name), in_row=self.in_row, item=self.item)
 
 
-class UnsteadyFragmentError(Error):
+class UnsteadyFragmentError(DataError):
     """A name for the place `place` has a backslash or a character that isn't ASCII. It is of bind_anywhere alone."""
 
     number = 19

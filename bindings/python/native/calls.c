@@ -22,8 +22,12 @@ PyObject *bytes_of(const native_state *state, PyObject *query)
         Py_INCREF(query);
         return query;
     }
-    if (Py_TYPE(query) == &PyUnicode_Type)
-        return PyUnicode_AsUTF8String(query);
+    if (Py_TYPE(query) == &PyUnicode_Type) {
+        PyObject *own = PyUnicode_AsUTF8String(query);
+        if (own != NULL || !PyErr_ExceptionMatches(PyExc_UnicodeEncodeError))
+            return own;
+        PyErr_Clear(); /* The package's function raises its own. */
+    }
     return PyObject_CallFunctionObjArgs(state->handed[HANDED_BYTES_OF], query, NULL);
 }
 

@@ -153,7 +153,7 @@ static PyObject *name_of(const native_state *state, PyObject *name, Py_ssize_t n
 {
     PyObject *own = NULL;
     if (Py_TYPE(name) == &PyUnicode_Type) {
-        own = PyUnicode_AsUTF8String(name);
+        own = bytes_of(state, name);
         if (own == NULL)
             return NULL;
     } else if (Py_TYPE(name) == &PyBytes_Type) {
