@@ -2,18 +2,25 @@
 
 from __future__ import annotations
 
+import functools
 from typing import Any, Optional
 
 _ENCODINGS = {"pymysql": "encoding", "MySQLdb": "encoding", "mysql": "python_charset"}
 """The attribute of a connection that names the encoding by which its driver makes bytes of a str."""
 
 
-def makers(connection: Any) -> set[str]:
+def makers(connection: Any) -> frozenset[str]:
     """Return the packages that a driver's connection is of.
 
     The connection of MySQL Connector's cursor is a weak reference, whose `__class__` alone is the connection's.
     """
-    return {kind.__module__.partition(".")[0] for kind in connection.__class__.__mro__}
+    return _packages(connection.__class__)
+
+
+@functools.lru_cache(maxsize=64)
+def _packages(kind: type) -> frozenset[str]:
+    """Return the packages that a type and those above it are of."""
+    return frozenset(above.__module__.partition(".")[0] for above in kind.__mro__)
 
 
 _NO_BACKSLASH_ESCAPES = 512

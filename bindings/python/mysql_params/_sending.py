@@ -242,13 +242,19 @@ _UNBUFFERED = "CursorUseResultMixIn"
 """The type of mysqlclient's cursors that have to read all rows before another text is sent, as their execute does."""
 
 
+@functools.lru_cache(maxsize=64)
+def _kinds(kind: type) -> str:
+    """Return the names of a type and of those above it."""
+    return " ".join(above.__name__ for above in kind.__mro__)
+
+
 def connection_of(cursor: Any) -> Any:
     """Return the connection of a driver's cursor, which has read what is left of its rows.
 
     Raise TypeError for a cursor that would prepare the text.
     """
-    kinds = [kind.__name__ for kind in type(cursor).__mro__]
-    if any("Prepared" in kind for kind in kinds):
+    kinds = _kinds(type(cursor))
+    if "Prepared" in kinds:
         raise ArgumentTypeError("a cursor that prepares looks for places itself: take connection.cursor()")
     for name in ("connection", "_connection", "_cnx"):
         connection = getattr(cursor, name, None)
