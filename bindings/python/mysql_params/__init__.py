@@ -172,8 +172,8 @@ Params = Union[
 ]
 """Nothing, values in order, or values by name. No values are as nothing.
 
-A value is a Value, or of a type that is registered, or what bind takes beside them; anything else is an ArgumentTypeError of the
-call. The annotation says less, since to mypy ``{"id": 42, "name": "x"}`` is a ``dict[str, object]``. Its last
+A value is a Value, or of a type that is registered, or what bind takes beside them; anything else is an ArgumentTypeError
+of the call. The annotation says less, since to mypy ``{"id": 42, "name": "x"}`` is a ``dict[str, object]``. Its last
 mapping is for ``{}``, of which mypy finds no types. Annotate your own by Value:
 ``params: dict[str, Value] = {}``.
 """
@@ -254,16 +254,16 @@ def bind(
     numbers. A str, bytes or a set is no list.
 
     A datetime with a time zone is refused, unless zone is given, which is that of the connection (@@time_zone): then it
-    is bound as the clocks there show it; ArgumentValueError for one that they show twice, or never. One without a zone is bound
-    as it is.
+    is bound as the clocks there show it; ArgumentValueError for one that they show twice, or never. One without a zone is
+    bound as it is.
 
     Of the parameters: raise ArgumentTypeError, which is a TypeError, for what has no literal; ArgumentOverflowError, an
     OverflowError, for a whole number of more than 65 digits; ArgumentValueError, a ValueError, for a Decimal of more, for
     one that is no number, and for an empty name; ArgumentEncodeError, a UnicodeEncodeError, for a str with a lone
-    surrogate (also for a query that is one); RepeatedNameError for a name given as str and as bytes. Then, of the query, the first that holds: MixedError;
-    MissingError, NamedForPositionalError or PositionalForNamedError; MarkCountError; NotAloneError; FloatError;
-    FragmentError, as for an empty list or rows of two lengths. In place of any of them, and of a text,
-    OutOfMemoryError.
+    surrogate (also for a query that is one); RepeatedNameError for a name given as str and as bytes. Then, of the query,
+    the first that holds: MixedError; MissingError, NamedForPositionalError or PositionalForNamedError; MarkCountError;
+    NotAloneError; FloatError; FragmentError, as for an empty list or rows of two lengths. In place of any of them, and of
+    a text, OutOfMemoryError.
     """
     return _native.bind(query, params, no_backslash_escape, zone)
 

@@ -281,14 +281,15 @@ def execute(
             mysql_params.execute(cursor, "SELECT * FROM t WHERE id = :id", {"id": 42})
             rows = cursor.fetchall()
 
-    The mode, the character sets and the longest text are asked of the connection before its first text, and anew once
-    it was made anew or its driver tells of another mode. With MySQL Connector and other drivers they are asked before
-    each text; so they are with always_ask, as over a proxy. The text goes out without parameters, so a ``%`` in it
-    stays one.
+    The mode, the character sets and the longest text are asked of the connection before its first text. They are asked
+    anew once it was made anew, its driver tells of another mode or has answers to read, or this package sent what is
+    not one SELECT, INSERT, UPDATE, DELETE or REPLACE. With MySQL Connector and other drivers they are asked before each
+    text; so they are with always_ask, as over a proxy. The text goes out without parameters, so a ``%`` in it stays one.
 
     Raise as bind; UnportableError; SessionError for a connection that isn't utf8mb4; PacketError for a text that is too
     long; DelimiterError for one that MySQL Connector would cut, EncodingError for one that it may rewrite; and what the
-    driver raises, whose message may show the text. After a ``SET`` of the mode or a character set call ask_again.
+    driver raises, whose message may show the text. After a ``SET`` of the mode or a character set that you sent by the
+    driver call ask_again.
     """
     connection, query = connection_of(cursor), _form.bytes_of(query)
     text = _bound(connection, query, params, zone, always_ask)
