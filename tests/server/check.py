@@ -15,6 +15,7 @@ import drivers
 import exported
 import floats
 import fragments
+import handed_over
 import leaks
 import limits
 import literals
@@ -49,6 +50,7 @@ def main(path: str, mysql_query: str, mysql_bind: str, folder: str) -> int:
     program.run(tests, path, mysql_query, folder)
     rows.run(tests, path, folder)
     drivers.run(tests, path)
+    handed_over.run(tests, path, folder)
     fragments.run(tests, path)
     floats.run(tests, path)
     client.run(tests, path, folder)
