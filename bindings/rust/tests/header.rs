@@ -1,4 +1,6 @@
-//! What archive.rs declares of the archive, held against mysql_params.h: each function and struct, with all names and types.
+//! What the crate says of the archive, held against mysql_params.h: each function and struct that archive.rs declares, with
+//! all names and types, and the numbers of refusals.
+use mysql_params::{Construct, Error, Fault, Unportable};
 use std::path::Path;
 
 /// A file without its comments in C, with a space for each run of white space.
@@ -87,4 +89,123 @@ fn structs_of_the_header() {
             "{name}"
         );
     }
+}
+
+/// The error of each refusal of the header that isn't the archive's own, by its name there.
+fn errors() -> [(&'static str, Error); 19] {
+    let (parameter, place, position, byte) = (0, 0, 0, 0);
+    let (word, construct) = (None, Construct::Hint);
+    let name = || b"a".to_vec().into();
+    let alone = Error::NotAlone {
+        place,
+        position,
+        name: None,
+        neighbour: 0,
+        word: None,
+        beside_point: false,
+    };
+    [
+        ("OUT_OF_MEMORY", Error::OutOfMemory),
+        (
+            "FORM_END",
+            Error::FormEnd {
+                parameter,
+                position,
+            },
+        ),
+        (
+            "FORM_LENGTH_LEAD",
+            Error::FormLengthLead {
+                parameter,
+                position,
+                byte,
+            },
+        ),
+        (
+            "FORM_TYPE",
+            Error::FormType {
+                parameter,
+                position,
+                column_type: 0,
+            },
+        ),
+        (
+            "FORM_MIXED",
+            Error::FormMixed {
+                parameter,
+                position,
+            },
+        ),
+        (
+            "FORM_REPEATED",
+            Error::RepeatedName {
+                parameter,
+                position,
+                name: name(),
+            },
+        ),
+        ("MIXED", Error::Mixed),
+        (
+            "MISSING",
+            Error::Missing {
+                place,
+                position,
+                name: name(),
+                word: None,
+            },
+        ),
+        ("NAMED_FOR_POSITIONAL", Error::NamedForPositional { word }),
+        ("POSITIONAL_FOR_NAMED", Error::PositionalForNamed),
+        (
+            "MARK_COUNT",
+            Error::MarkCount {
+                marks: 0,
+                values: 0,
+            },
+        ),
+        ("NOT_ALONE", alone),
+        ("FLOAT", Error::Float { place, name: None }),
+        ("UNSTEADY", Error::Unsteady { position }),
+        (
+            "UNPORTABLE",
+            Error::Unportable(Unportable {
+                construct,
+                position,
+            }),
+        ),
+        (
+            "FAULT",
+            Error::Fault {
+                place,
+                fault: Fault::Empty,
+                name: None,
+            },
+        ),
+        ("BACKSLASH", Error::Backslash { position }),
+        (
+            "UNSTEADY_FRAGMENT",
+            Error::UnsteadyFragment { place, name: None },
+        ),
+        ("OTHER_TABLE", Error::UnknownAnswer { number: 20 }),
+    ]
+}
+
+#[test]
+fn numbers_of_the_header() {
+    let (header, source) = (code_of("../c/mysql_params.h"), code_of("src/archive.rs"));
+    let numbers = declarations(&header, "enum mysql_params_number {", "}", ',').expect("the enum");
+    let mut errors = errors().to_vec();
+    for number in numbers {
+        let (name, number) = number.split_once(" = ").expect("NAME = NUMBER");
+        let name = name.strip_prefix("MYSQL_PARAMS_").expect("a name");
+        let number: i32 = number.parse().expect("a number");
+        match errors.iter().position(|(of_error, _)| *of_error == name) {
+            Some(at) => assert_eq!(errors.remove(at).1.number(), Some(number), "{name}"),
+            None => assert!(
+                source.contains(&format!("const {name}: i32 = {number};")),
+                "{name}"
+            ),
+        }
+    }
+    assert_eq!(errors, []);
 }
