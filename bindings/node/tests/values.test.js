@@ -243,6 +243,7 @@ test('memory that another thread makes longer', (t) => {
     return
   }
   const view = new Uint8Array(shared).fill(97)
+  bind('?', ['x'.repeat(1 << 20)]) // So long a form isn't kept, and the next one has to grow.
   // The other thread does it while the form gets more room.
   const { allocUnsafeSlow } = Buffer
   Buffer.allocUnsafeSlow = (size) => {
