@@ -1,5 +1,5 @@
 'use strict'
-// The bytes of a Uint8Array as it is now: of a subclass that says another length, and of memory that grows or is gone.
+// The bytes of a Uint8Array as it is now: of a subclass that says another length, and of memory that is gone.
 
 const { isUint8Array } = require('node:util/types')
 
@@ -14,7 +14,6 @@ const itemOf = ofPrototype(ofArrays, 'at')
 const lengthOf = ofPrototype(ofArrays, 'length')
 const offsetOf = ofPrototype(ofArrays, 'byteOffset')
 const bufferOf = ofPrototype(ofArrays, 'buffer')
-const lengthOfBuffer = ofPrototype(ArrayBuffer.prototype, 'byteLength')
 
 /** Whether the buffer of a Uint8Array was transferred, or made shorter than to where the array begins. */
 function isGone(array) {
@@ -27,25 +26,9 @@ function isGone(array) {
   }
 }
 
-/** Whether another thread may make the buffer of a Uint8Array longer. */
-function isShared(array) {
-  try {
-    lengthOfBuffer(bufferOf(array))
-    return false
-  } catch {
-    return true
-  }
-}
-
-/** A plain view of the bytes of a Uint8Array. */
-function viewOf(array) {
-  const length = lengthOf(array)
-  return new Uint8Array(bufferOf(array), offsetOf(array), length)
-}
-
-/** A Uint8Array of the same bytes whose length stays during a call: itself, unless its buffer is shared. */
-function steadyOf(array) {
-  return isShared(array) ? viewOf(array) : array
+/** A plain view of the bytes of a Uint8Array, or of so many of them. */
+function viewOf(array, count = lengthOf(array)) {
+  return new Uint8Array(bufferOf(array), offsetOf(array), count)
 }
 
 /** Whether a value is a Uint8Array whose buffer is gone. */
@@ -53,4 +36,4 @@ function isGoneArray(value) {
   return isUint8Array(value) && isGone(value)
 }
 
-module.exports = { isGone, isGoneArray, lengthOf, steadyOf, viewOf }
+module.exports = { isGone, isGoneArray, lengthOf, viewOf }

@@ -2,7 +2,7 @@
 // The flat form of parameters, as mysql_params.h describes it, written into one buffer that crosses the border once.
 
 const { isDate, isMap, isUint8Array } = require('node:util/types')
-const { isGone, lengthOf, steadyOf } = require('./bytes.js')
+const { isGone, lengthOf, viewOf } = require('./bytes.js')
 const { digitsOf, numberOf, pairsOf, partsOf, wordOf } = require('./fragments.js')
 const dates = require('./dates.js')
 const { otherOf } = require('./objects.js')
@@ -122,11 +122,22 @@ class Form {
 
   /** Takes the bytes of a form that stands already. */
   take(given) {
-    const bytes = steadyOf(given)
-    const count = lengthOf(bytes)
+    const count = lengthOf(given)
     if (count > this.size) this.grow(count)
-    this.bytes.set(bytes, 0)
+    this.put(0, given, count)
     this.len = count
+  }
+
+  /**
+   * Writes so many bytes of a Uint8Array at a byte, for which there is room. Another thread may have made the array longer since
+   * these were counted: what then stands behind them counts as unwritten, or there is no room for all.
+   */
+  put(at, given, count) {
+    try {
+      this.bytes.set(given, at)
+    } catch {
+      this.bytes.set(viewOf(given, count), at)
+    }
   }
 
   /** Appends a type and flags, for which there is room. */
@@ -147,14 +158,12 @@ class Form {
     for (let i = 1, rest = length; i < width; i++, rest = Math.floor(rest / 256)) bytes[at + i] = rest % 256
   }
 
-  /** Appends the bytes of a Uint8Array as a length-encoded string. */
-  string(given) {
-    const bytes = steadyOf(given)
-    const count = lengthOf(bytes)
+  /** Appends so many bytes of a Uint8Array as a length-encoded string. */
+  string(given, count) {
     const width = widthOf(count)
     if (this.len + width + count > this.size) this.grow(width + count)
     this.length(this.len, count, width)
-    this.bytes.set(bytes, this.len + width)
+    this.put(this.len + width, given, count)
     this.len += width + count
   }
 
@@ -254,9 +263,10 @@ function writeText(form, value) {
 }
 
 function writeBytes(form, value) {
-  if (isGone(value)) return false
+  const count = lengthOf(value)
+  if (count === 0 && isGone(value)) return false
   form.type(VAR_STRING, 0)
-  form.string(value)
+  form.string(value, count)
   return true
 }
 

@@ -237,25 +237,29 @@ test('bytes of memory that is gone', () => {
 })
 
 test('memory that another thread makes longer', (t) => {
-  const shared = new SharedArrayBuffer(70000, { maxByteLength: 200000 })
-  if (!shared.growable) {
-    t.skip('no SharedArrayBuffer grows here')
-    return
+  // So long that the bytes still fit in the form, and so long that they don't.
+  for (const longer of [75000, 200000]) {
+    const shared = new SharedArrayBuffer(70000, { maxByteLength: longer })
+    if (!shared.growable) {
+      t.skip('no SharedArrayBuffer grows here')
+      return
+    }
+    const view = new Uint8Array(shared).fill(97)
+    bind('?', ['x'.repeat(1 << 20)]) // So long a form isn't kept, and the next one has to grow.
+    // The other thread does it while the form gets more room.
+    const { allocUnsafeSlow } = Buffer
+    Buffer.allocUnsafeSlow = (size) => {
+      shared.grow(longer)
+      view.fill(98, 70000)
+      return allocUnsafeSlow(size)
+    }
+    try {
+      assert.equal(bind('?, ?', [view, 7]), `'${'a'.repeat(70000)}', 7`)
+    } finally {
+      Buffer.allocUnsafeSlow = allocUnsafeSlow
+    }
+    assert.equal(view.length, longer)
   }
-  const view = new Uint8Array(shared).fill(97)
-  bind('?', ['x'.repeat(1 << 20)]) // So long a form isn't kept, and the next one has to grow.
-  // The other thread does it while the form gets more room.
-  const { allocUnsafeSlow } = Buffer
-  Buffer.allocUnsafeSlow = (size) => {
-    shared.grow(200000)
-    return allocUnsafeSlow(size)
-  }
-  try {
-    assert.equal(bind('?, ?', [view, 7]), `'${'a'.repeat(70000)}', 7`)
-  } finally {
-    Buffer.allocUnsafeSlow = allocUnsafeSlow
-  }
-  assert.equal(view.length, 200000)
 })
 
 test('null and booleans', () => {
