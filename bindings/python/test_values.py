@@ -270,10 +270,11 @@ class Test(unittest.TestCase):
                 self.assertEqual(bind("?", [[1, value]]), b"1, " + wanted)
                 self.assertEqual(bind("?", [[(1, value)]]), b"(1, " + wanted + b")")
                 self.assertEqual(mysql_params.bind_anywhere("?, ?", [value, [value]]), wanted + b", " + wanted)
-                for call in (mysql_params.bind_in_both_modes, lambda query, given: mysql_params.bind_rows(query, [given])):
-                    message = "^the value for place 0 is a whole number of more than 64 bits, which bind, bind_anywhere and"
-                    with self.assertRaisesRegex(OverflowError, message):
-                        call("?", [value])
+                message = "the value for place 0 is a whole number of more than 64 bits, which bind, bind_anywhere and"
+                with self.assertRaisesRegex(OverflowError, "^" + message):
+                    mysql_params.bind_in_both_modes("?", [value])
+                with self.assertRaisesRegex(OverflowError, "^row 0: " + message):
+                    mysql_params.bind_rows("?", [[value]])
         for value in (10**65, -(10**65), 10**5000, Number(10**65)):
             for given in (value, [value], [(value,)]):
                 with self.assertRaises(OverflowError) as raised:
