@@ -67,10 +67,15 @@ def _signs_of_mysqlclient(connection: Any) -> Optional[Signs]:
 
 def encoding_of(connection: Any) -> Optional[str]:
     """Return the encoding by which a driver makes bytes of a str; None of another driver, and if it shows none."""
-    found = makers(connection)
-    attribute = next((attribute for maker, attribute in _ENCODINGS.items() if maker in found), "")
-    encoding = getattr(connection, attribute, None)
+    encoding = getattr(connection, _attribute_of_encoding(connection.__class__), None)
     return encoding if isinstance(encoding, str) else None
+
+
+@functools.lru_cache(maxsize=64)
+def _attribute_of_encoding(kind: type) -> str:
+    """Return the attribute of a driver's connections that names the encoding; an empty one of another driver."""
+    found = _packages(kind)
+    return next((attribute for maker, attribute in _ENCODINGS.items() if maker in found), "")
 
 
 def may_rewrite(encoding: Optional[str], text: bytes) -> bool:
