@@ -114,7 +114,8 @@ def _text_form(text: str, which: Union[bytes, int]) -> bytes:
     try:
         return bytes([_VAR_STRING, 0]) + string_form(str.encode(text))
     except UnicodeEncodeError as fault:
-        raise ArgumentEncodeError(*fault.args[:-1], f"{fault.reason}, in {place(which)}") from None
+        reason = f"{fault.reason}, in {place(which)}"
+        raise ArgumentEncodeError(fault.encoding, fault.object, fault.start, fault.end, reason) from None
 
 
 def _known_form(value: object, which: Union[bytes, int], zone: Optional[datetime.tzinfo]) -> Union[bytes, None]:

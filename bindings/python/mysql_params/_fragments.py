@@ -141,7 +141,8 @@ def _text(text: str, which: Union[bytes, int]) -> bytes:
     try:
         return _form.string_form(str.encode(text))
     except UnicodeEncodeError as fault:
-        raise ArgumentEncodeError(*fault.args[:-1], f"{fault.reason}, in {_form.place(which)}") from None
+        reason = f"{fault.reason}, in {_form.place(which)}"
+        raise ArgumentEncodeError(fault.encoding, fault.object, fault.start, fault.end, reason) from None
 
 
 def _count(number: int) -> bytes:

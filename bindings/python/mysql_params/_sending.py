@@ -253,7 +253,8 @@ def connection_of(cursor: Any) -> Any:
 
     Raise TypeError for a cursor that would prepare the text.
     """
-    kinds = _kinds(type(cursor))
+    kind: type = type(cursor)
+    kinds = _kinds(kind)
     if "Prepared" in kinds:
         raise ArgumentTypeError("a cursor that prepares looks for places itself: take connection.cursor()")
     for name in ("connection", "_connection", "_cnx"):
