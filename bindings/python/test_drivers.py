@@ -189,6 +189,17 @@ class Test(unittest.TestCase):
                     executemany(connection.cursor(), "SET sql_mode = :m, @a = :a", rows)
                 self.assertEqual(raised.exception.variable, "sql_mode")
 
+    def test_a_change_of_the_user_sets_the_character_set_of_the_driver_again(self):
+        with contextlib.closing(connect(MySQLdb, charset="gbk", use_unicode=False)) as connection:
+            cursor = connection.cursor()
+            cursor.execute("SET SESSION session_track_system_variables = ''")
+            cursor.execute("SET NAMES utf8mb4")
+            execute(cursor, "SELECT 1")
+            cursor.fetchall()
+            connection.change_user("root", "", "mysql")
+            with self.assertRaises(mysql_params.SessionError):
+                execute(cursor, "SELECT :a", {"a": "\u20ac' , 7 -- "})
+
     def test_routines_leave_the_session(self):
         for driver in DRIVERS:
             for body in (f"SET sql_mode = '{NONE}'", "SET NAMES gbk", "SET character_set_client = gbk"):

@@ -145,7 +145,8 @@ static bool has_all_results(const connection *connection)
     return ask_driver(connection, "more_results", &has_more, NULL) && Z_TYPE(has_more) == IS_FALSE;
 }
 
-/* Sets what mysqli tells of its connection. Returns whether it does. */
+/* Sets what mysqli tells of its connection. Returns whether it does, and whether the character set is one that a text may go
+ * out in: else `change_user` sets the server's back to it, after a SET NAMES, and changes nothing that mysqli tells. */
 static bool take_connected(const connection *connection, signs *signs)
 {
     zval charset, held;
@@ -155,7 +156,7 @@ static bool take_connected(const connection *connection, signs *signs)
         return false;
     signs->charset = zval_get_string(&charset);
     zval_ptr_dtor(&charset);
-    return true;
+    return zend_string_equals_literal(signs->charset, "utf8mb4");
 }
 
 /* Asks the driver, and not the server. */

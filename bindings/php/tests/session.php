@@ -144,6 +144,15 @@ test('a reconnect is seen', function () {
     same("\\'", cell($connection, 'SELECT ?', ["\\'"]));
 });
 
+test('a change of the user sets the character set of the driver again', function () {
+    $connection = mysqli(charset: 'gbk');
+    plain($connection, 'SET NAMES utf8mb4');
+    same('1', (string) cell($connection, 'SELECT 1'));
+    $connection->change_user('root', '', null);
+    $refusal = thrown(fn () => query($connection, 'SELECT ?', ["\u{20ac}' , 7 -- "]));
+    same([BindException::SESSION, 'character_set_client'], [$refusal->getCode(), $refusal->name]);
+});
+
 test('a connection of the server that ended, and a persistent one', function () {
     $connection = pdo();
     same('1', (string) cell($connection, 'SELECT 1'));

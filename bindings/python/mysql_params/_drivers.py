@@ -61,8 +61,12 @@ def _signs_of_mysqlclient(connection: Any) -> Optional[Signs]:
     while connection.next_result() == 0:
         connection.store_result()
         is_read = False
+    # Over another set `change_user` sets the server's back to it, after a SET NAMES, and need not change what is shown.
+    charset = connection.character_set_name()
+    if not is_read or charset != "utf8mb4":
+        return None
     mode = len(connection.escape_string(b"\\")) == 1
-    return (mode, (connection.thread_id(), connection.character_set_name())) if is_read else None
+    return mode, (connection.thread_id(), charset)
 
 
 def encoding_of(connection: Any) -> Optional[str]:
