@@ -11,6 +11,8 @@ mod both_modes;
 #[cfg(test)]
 mod fixed_query;
 #[cfg(test)]
+mod guarded_text;
+#[cfg(test)]
 mod isolation;
 #[cfg(test)]
 mod parsed_query;

@@ -21,7 +21,12 @@ mod DoubleTokenLemmas
 mod FragmentListLemmas
 pub mod SteadyPartLemmas
 pub mod SteadyFragmentLemmas
+pub mod GuardedFragmentLemmas
 pub mod WideFragmentLemmas
 pub mod SaidSteadyLemmas
 pub mod SteadyRoomLemmas
 pub mod FragmentMapLemmas
+pub mod BracketLemmas
+pub mod BracketClosesLemmas
+pub mod BracketWalkLemmas
+pub mod BracketLawLemmas

@@ -45,7 +45,7 @@ use Rattle.mysql_steady_text.proofs.SteadyClientLemmas.{bound_alone}
 
 -- ---- steady texts of fragments
 
-AllSteady : List (List ℕ) → Type 0
+pub AllSteady : List (List ℕ) → Type 0
 AllSteady [] = ⊤
 AllSteady (text ∷ texts) = (list_all is_steady text ≡ true) × AllSteady texts
 
@@ -56,7 +56,7 @@ pub not_some : {A : Type 0} (o : Option A) → is_some o ≡ false → o ≡ Non
 not_some None e = refl
 not_some (Some x) e = absurd (true≢false e)
 
-texts_steady : (place : ℕ) (fragments : List Fragment) → first_unsteady_from place fragments ≡ None →
+pub texts_steady : (place : ℕ) (fragments : List Fragment) → first_unsteady_from place fragments ≡ None →
     AllSteady (map fragment_text fragments)
 unfolding AllSteady
 texts_steady place [] e = tt
@@ -73,7 +73,7 @@ none_unsteady place [] s = refl
 none_unsteady place (fragment ∷ fragments) s = rw s.0 (none_unsteady (place + 1) fragments s.1)
 
 -- steady texts in the places of a steady query give a steady one,
-bound_steady : (ts : List Token) (texts : List (List ℕ)) → list_all is_steady (text_of ts) ≡ true → AllSteady texts →
+pub bound_steady : (ts : List Token) (texts : List (List ℕ)) → list_all is_steady (text_of ts) ≡ true → AllSteady texts →
     list_all is_steady (bound ts texts) ≡ true
 unfolding AllSteady
 bound_steady [] texts h s = refl

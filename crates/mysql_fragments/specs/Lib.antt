@@ -15,4 +15,7 @@ pub mod BorrowedText
 pub mod FragmentsInRoom
 pub mod SteadyFragments
 pub mod SteadyFragmentsErrors
+pub mod GuardedFragments
 pub mod WideSteadyFragments
+pub mod Brackets
+pub mod BracketWalk

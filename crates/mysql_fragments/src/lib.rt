@@ -10,11 +10,13 @@
 //! [`bind_fragments_anywhere`] gives a text that every server reads alike, in either mode and over
 //! every character set. [`bind_fragments_in_any_mode`] does so for one server. Both write values as
 //! steady literals. `specs/SteadyFragments.antt` defines their promises.
+//! [`bind_wide_fragments_guarded`] writes guarded literals (`specs/GuardedFragments.antt`).
 #![tactic(auto)]
 
 mod appended;
 mod borrowed;
 mod bound_refs;
+pub mod brackets;
 mod expanded;
 mod faults;
 mod filled;
@@ -22,6 +24,7 @@ mod filled_refs;
 mod fragment;
 mod fragment_ref;
 mod fragments_error;
+mod guarded_fragments;
 pub mod laws;
 mod measured;
 mod names;
@@ -44,6 +47,7 @@ pub use expanded::{
 pub use fragment::{ColumnAssignment, Fragment, Fragments, Item, Keyword};
 pub use fragment_ref::FragmentRef;
 pub use fragments_error::{FragmentFault, FragmentsError};
+pub use guarded_fragments::bind_wide_fragments_guarded;
 pub use mysql_binding::TextInRoom;
 pub use placed_refs::{bind_placed_into, placed_error};
 pub use rows_ref::RowsRef;

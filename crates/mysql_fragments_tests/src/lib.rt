@@ -8,7 +8,11 @@ mod borrowed;
 #[cfg(test)]
 mod bound;
 #[cfg(test)]
+mod brackets;
+#[cfg(test)]
 mod columns;
+#[cfg(test)]
+mod guarded_bound;
 #[cfg(test)]
 mod placed;
 #[cfg(test)]

@@ -75,7 +75,8 @@ fn fragment(alloc: Global, plain: Plain) -> Result<Fragment, AllocError> {
     }
 }
 
-fn positional(alloc: Global, plain: &[Plain]) -> Result<Fragments, AllocError> {
+/// Fragments by position.
+pub(crate) fn positional(alloc: Global, plain: &[Plain]) -> Result<Fragments, AllocError> {
     let mut list = Vec::new(alloc);
     for one in plain {
         list.push(fragment(alloc, *one)?)?;

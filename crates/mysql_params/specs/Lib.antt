@@ -54,6 +54,16 @@ pub use Rattle.mysql_steady_text.specs.SteadyPairs
 pub use Rattle.mysql_steady_text.specs.FirstBackslash
 pub use Rattle.mysql_steady_text.specs.BothModesText
 pub use Rattle.mysql_steady_text.specs.BothModesErrors
+pub use Rattle.mysql_steady_text.specs.GuardedLiteral
+pub use Rattle.mysql_steady_text.specs.GuardedShape
+pub use Rattle.mysql_steady_text.specs.ClientSet
+pub use Rattle.mysql_steady_text.specs.GuardedReader
+pub use Rattle.mysql_steady_text.specs.ReadGuarded
+pub use Rattle.mysql_steady_text.specs.GuardedLiterals
+pub use Rattle.mysql_steady_text.specs.SeenText
+pub use Rattle.mysql_steady_text.specs.GuardedText
+pub use Rattle.mysql_steady_text.specs.GuardedAgain
+pub use Rattle.mysql_steady_text.specs.KnownSets
 pub use Rattle.mysql_fixed_query.specs.Bindable
 pub use Rattle.mysql_fixed_query.specs.FixedText
 pub use Rattle.mysql_fixed_query.specs.BindableAnywhere
@@ -84,6 +94,7 @@ pub use Rattle.mysql_fragments.specs.BorrowedText
 pub use Rattle.mysql_fragments.specs.FragmentsInRoom
 pub use Rattle.mysql_fragments.specs.SteadyFragments
 pub use Rattle.mysql_fragments.specs.SteadyFragmentsErrors
+pub use Rattle.mysql_fragments.specs.GuardedFragments
 pub use Rattle.mysql_to_fragments.specs.FragmentContent
 pub use Rattle.mysql_to_fragments.specs.Arguments
 pub use Rattle.mysql_to_fragments.specs.NamedContents

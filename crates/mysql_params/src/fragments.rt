@@ -8,8 +8,9 @@ pub use mysql_fragments::{
     FragmentsError, Item, Keyword, RowsRef, SteadyFragmentsError, bind_borrowed_fragments,
     bind_borrowed_fragments_into, bind_fragments, bind_fragments_anywhere, bind_fragments_in,
     bind_fragments_in_any_mode, bind_wide_borrowed_fragments, bind_wide_borrowed_fragments_into,
-    bind_wide_fragments, bind_wide_fragments_anywhere, bind_wide_fragments_in,
-    bind_wide_fragments_in_any_mode, expanded_query, expanded_query_in, expanded_wide_query_in,
+    bind_wide_fragments, bind_wide_fragments_anywhere, bind_wide_fragments_guarded,
+    bind_wide_fragments_in, bind_wide_fragments_in_any_mode, expanded_query, expanded_query_in,
+    expanded_wide_query_in,
 };
 pub use mysql_to_fragments::{
     AssignmentsOf, Decimal, DoubleOf, Identifier, Identifiers, ListOf, Qualified, RowsOf,

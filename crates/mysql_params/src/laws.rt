@@ -34,8 +34,10 @@ pub use mysql_portable::laws::{
 };
 pub use mysql_query_core::laws::run_error_equality;
 pub use mysql_steady_text::laws::{
-    both_modes_error_equality, both_modes_pairs_error_equality, bound_steady_texts,
-    bound_steady_texts_are_sent, bound_steady_texts_in_clients, bound_texts_in_both_modes,
+    both_modes_error_equality, both_modes_pairs_error_equality, bound_guarded_texts,
+    bound_guarded_texts_on_servers, bound_steady_texts, bound_steady_texts_are_sent,
+    bound_steady_texts_in_clients, bound_texts_in_both_modes, client_sets, guarded_isolation,
+    guarded_literals, guarded_texts_on_servers, guarded_texts_over_sets, one_content,
     steady_isolation, steady_literals, steady_pairs_error_equality, steady_text_error_equality,
     steady_texts_are_sent, steady_texts_in_clients, steady_texts_on_servers,
 };

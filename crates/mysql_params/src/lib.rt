@@ -12,6 +12,9 @@
 //! values, and each of these calls has two such calls beside it. [`bind_wide`] and the calls with
 //! `wide` in their names take names with capitals.
 //!
+//! [`bind_text_guarded`] writes text that has the connection's collation. In each mode, and over
+//! each character set of a client, no value leaves its literal.
+//!
 //! Before a query is bound, [`first_unportable`] finds the first construct that servers read in
 //! different ways, or in which a value would join a number. [`first_unportable_in_client`] also
 //! finds constructs that the client `mysql` or `mariadb` reads or sends in another way.
@@ -44,8 +47,8 @@ pub use mysql_portable::wide::{first_unportable_in_client_wide, first_unportable
 pub use mysql_query_core::{RunError, run, words_of};
 pub use mysql_steady_text::{
     BothModesError, BothModesPairsError, SteadyPairsError, SteadyTextError, bind_pairs_anywhere,
-    bind_pairs_in_any_mode, bind_pairs_in_both_modes, bind_text_anywhere, bind_text_in_any_mode,
-    bind_text_in_both_modes, bind_values_anywhere, bind_values_in_any_mode,
+    bind_pairs_in_any_mode, bind_pairs_in_both_modes, bind_text_anywhere, bind_text_guarded,
+    bind_text_in_any_mode, bind_text_in_both_modes, bind_values_anywhere, bind_values_in_any_mode,
     bind_values_in_both_modes, bind_wide_anywhere, bind_wide_in_any_mode, bind_wide_in_both_modes,
     bind_wide_pairs_anywhere, bind_wide_pairs_in_any_mode, bind_wide_pairs_in_both_modes,
     bind_wide_values_anywhere, bind_wide_values_in_any_mode, bind_wide_values_in_both_modes,

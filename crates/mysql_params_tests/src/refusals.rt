@@ -15,7 +15,7 @@ fn says(rt: &impl Abort, alloc: Global, refusal: RunError, message: &str, status
 #[test]
 fn messages_and_statuses(rt: HostRuntime) {
     let alloc = rt.alloc();
-    let usage = "usage: names, or bind NAME=VALUE.. (writes the text, sends nothing)";
+    let usage = "usage: names, or bind NAME=VALUE..";
     says(&rt, alloc, RunError::Usage, usage, 2);
     let mixed = "Named and positional params in one query";
     says(&rt, alloc, RunError::Mixed, mixed, 1);

@@ -13,7 +13,7 @@ use thiserror::Error;
 #[derive(Debug, PartialEq, Drop, Error)]
 pub enum RunError {
     /// The words aren't a command of the program. Nothing was read or written.
-    #[error("usage: names, or bind NAME=VALUE.. (writes the text, sends nothing)")]
+    #[error("usage: names, or bind NAME=VALUE..")]
     Usage,
     /// A name is given twice among the parameters. Nothing was read or written.
     #[error("Redefinition of named parameter `{}'", Shown(.0.as_slice()))]

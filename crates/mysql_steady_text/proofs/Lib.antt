@@ -13,3 +13,13 @@ pub mod FormLemmas
 pub mod WideSteadyLemmas
 pub mod WideBothModesLemmas
 pub mod PairsLemmas
+pub mod GuardedFormLemmas
+pub mod ReadInLemmas
+pub mod GuardedLiteralLemmas
+pub mod GuardedSpliceLemmas
+pub mod SeenLemmas
+pub mod InPlaceLemmas
+pub mod GuardedTextLemmas
+pub mod GuardedAgainLemmas
+pub mod KnownSetLemmas
+pub mod OneContentLemmas

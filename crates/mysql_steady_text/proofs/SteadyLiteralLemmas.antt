@@ -67,7 +67,7 @@ steady_shape (Time n d h m s u) r = bare_literal _ (literal_shape true (Time n d
 
 -- ---- its bytes
 
-all_wider : (test wide : ℕ → Bool) → ((b : ℕ) → test b ≡ true → wide b ≡ true) → (bytes : List ℕ) →
+pub all_wider : (test wide : ℕ → Bool) → ((b : ℕ) → test b ≡ true → wide b ≡ true) → (bytes : List ℕ) →
     list_all test bytes ≡ true → list_all wide bytes ≡ true
 all_wider test wide f [] h = refl
 all_wider test wide f (b ∷ bytes) h =
@@ -186,7 +186,7 @@ read_units-all_doubled mode (b ∷ bytes) rest h n =
     ∙ read_units-doubled mode b (escaped true bytes ++ single_quote ∷ rest) p.0
     ∙ ap (prefix_read (b ∷ [])) (read_units-all_doubled mode bytes rest p.1 n)
 
-spelled_out_no_backslash : (b : ℕ) → is_spelled_out b ≡ true → is_no_backslash b ≡ true
+pub spelled_out_no_backslash : (b : ℕ) → is_spelled_out b ≡ true → is_no_backslash b ≡ true
 spelled_out_no_backslash b h =
     (and_parts (nat_lt b 128) (is_no_backslash b) (spelled_out_steady b h)).1
 

@@ -40,7 +40,7 @@ underscore_cut mode = record {
   cut_places = refl;
 }
 
-space_cut : (mode : Bool) → IsCutBefore mode (codes " ") (Plain space ∷ [])
+pub space_cut : (mode : Bool) → IsCutBefore mode (codes " ") (Plain space ∷ [])
 space_cut mode = record {
   cut_text = refl;
   cut_tokens = λ rest. (plain_at mode space rest refl, tt);
@@ -48,7 +48,7 @@ space_cut mode = record {
   cut_places = refl;
 }
 
-HasCut : Bool → List ℕ → Type 0
+unfoldable pub HasCut : Bool → List ℕ → Type 0
 HasCut mode text = (ts : List Token) × IsCutBefore mode text ts
 
 both_cut : (mode : Bool) (text more : List ℕ) → HasCut mode text → HasCut mode more → HasCut mode (text ++ more)
@@ -59,7 +59,7 @@ introducer_cut : (mode : Bool) → HasCut mode (codes "_utf8mb4")
 unfolding HasCut
 introducer_cut mode = both_cut mode (codes "_") (codes "utf8mb4") (_, underscore_cut mode) (alphanumeric_cut mode (codes "utf8mb4") refl)
 
-IsSteadyLiteral-cut : {literal : List ℕ} → IsSteadyLiteral literal → HasCut true literal
+pub IsSteadyLiteral-cut : {literal : List ℕ} → IsSteadyLiteral literal → HasCut true literal
 unfolding HasCut
 IsSteadyLiteral-cut (bare_literal literal h) = IsLiteral-cut true h
 IsSteadyLiteral-cut (introduced_string literal h) =
@@ -69,7 +69,7 @@ IsSteadyLiteral-cut (introduced_pairs pairs h) =
     (both_cut true (codes " ") (codes "0x" ++ pairs) (_, space_cut true) (IsLiteral-cut true (hexadecimal_literal pairs h)))
 
 -- a steady text without a backslash has the same tokens in both modes, before any text
-cut_in : (mode : Bool) (literal : List ℕ) (ts : List Token) → list_all is_steady literal ≡ true →
+pub cut_in : (mode : Bool) (literal : List ℕ) (ts : List Token) → list_all is_steady literal ≡ true →
     IsCutBefore true literal ts → IsCutBefore mode literal ts
 cut_in mode literal ts s c = record {
   cut_text = c.cut_text;
@@ -102,7 +102,7 @@ introducer_opens_nothing : (before : ℕ) (bs : List ℕ) → may_stand_before b
     opens_nothing_after before (underscore ∷ bs) ≡ true
 introducer_opens_nothing before bs h = rw (other may_stand_before before colon h refl) refl
 
-literal_opens_nothing : {literal : List ℕ} → IsSteadyLiteral literal → (before : ℕ) (rest : List ℕ) →
+pub literal_opens_nothing : {literal : List ℕ} → IsSteadyLiteral literal → (before : ℕ) (rest : List ℕ) →
     may_stand_before before ≡ true → opens_nothing_after before (literal ++ rest) ≡ true
 literal_opens_nothing (bare_literal literal h) before rest b = IsLiteral-opens_nothing true h before rest
 literal_opens_nothing (introduced_string literal h) before rest b = introducer_opens_nothing before (codes "utf8mb4" ++ (literal ++ rest)) b

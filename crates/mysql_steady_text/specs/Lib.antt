@@ -11,6 +11,16 @@ pub mod SteadyLiteral
 pub mod SteadyShape
 pub mod SteadyReader
 pub mod ReadSteadyLiteral
+pub mod GuardedLiteral
+pub mod GuardedShape
+pub mod ClientSet
+pub mod GuardedReader
+pub mod ReadGuarded
+pub mod GuardedLiterals
+pub mod SeenText
+pub mod GuardedText
+pub mod GuardedAgain
+pub mod KnownSets
 pub mod WideAnywhere
 pub mod WideBothModes
 pub mod WidePairs

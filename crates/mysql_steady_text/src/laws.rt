@@ -24,12 +24,18 @@ ghost use Rattle.mysql_steady_text.specs.SteadyPairs.{AreEqualBothModesPairsErro
 ghost use Rattle.mysql_steady_text.specs.SteadyText.{IsSteadyText};
 ghost use Rattle.mysql_steady_text.specs.SteadyTextErrors.{AreEqualSteadyTextErrors};
 
+mod guarded;
 mod literals;
 
 use crate::both_modes_error::BothModesError;
 use crate::both_modes_pairs_error::BothModesPairsError;
 use crate::steady_pairs_error::SteadyPairsError;
 use crate::steady_text_error::SteadyTextError;
+pub use guarded::{
+    borrowed_guarded_literals, bound_guarded_texts, bound_guarded_texts_on_servers, client_sets,
+    guarded_isolation, guarded_literals, guarded_texts_on_servers, guarded_texts_over_sets,
+    one_content,
+};
 pub use literals::{borrowed_steady_literals, steady_literals};
 
 /// For a query whose places stand alone, and any texts of the shape of steady literals in these

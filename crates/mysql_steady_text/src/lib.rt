@@ -6,6 +6,9 @@
 //! with bytes from 128 on. The connection's character set then has to be that of the query
 //! (`specs/BothModesText.antt`).
 //!
+//! [`bind_text_guarded`] writes guarded literals, which have the connection's collation
+//! (`specs/GuardedText.antt`).
+//!
 //! [`steady_literal`] has the length and the text of a steady literal, and
 //! `specs/SteadyLiteral.antt` defines it.
 #![tactic(auto)]
@@ -14,6 +17,8 @@ mod both_modes;
 mod both_modes_error;
 mod both_modes_pairs_error;
 pub mod first_backslash;
+mod guarded_literal;
+mod guarded_text;
 pub mod laws;
 mod pairs;
 pub mod steady_literal;
@@ -27,6 +32,8 @@ mod wide_pairs;
 pub use both_modes::bind_text_in_both_modes;
 pub use both_modes_error::BothModesError;
 pub use both_modes_pairs_error::BothModesPairsError;
+pub use guarded_literal::GuardedForm;
+pub use guarded_text::bind_text_guarded;
 pub use pairs::{
     bind_pairs_anywhere, bind_pairs_in_any_mode, bind_pairs_in_both_modes, bind_values_anywhere,
     bind_values_in_any_mode, bind_values_in_both_modes,
