@@ -139,10 +139,22 @@ static char *cut_at_bars(char *text)
     return next + 2;
 }
 
-/* Appends the rows that stand between `||`. It cuts the text. */
-static bool append_rows(mysql_params_form *form, const char *name, char *rows)
+/* Types of the form that C has no function for, since whoever calls one says what is a list. */
+enum { IMPLICIT_LIST = 136, IMPLICIT_ROWS = 137 };
+
+/* Makes the list or the rows that begin with the last bytes of the form implicit: a type, flags and the count. */
+static void make_implicit(mysql_params_form *form, uint8_t type)
 {
-    mysql_params_begin_rows(form, name);
+    form->room[form->needed - 6] = type;
+}
+
+/* Appends the rows that stand between `||`. It cuts the text. */
+static bool append_rows(mysql_params_form *form, const char *name, char *rows, bool implicit)
+{
+    if (!mysql_params_begin_rows(form, name))
+        return false;
+    if (implicit)
+        make_implicit(form, IMPLICIT_ROWS);
     while (rows != NULL) {
         char *next = cut_at_bars(rows);
         mysql_params_begin_row(form);
@@ -236,18 +248,27 @@ static bool append_word(mysql_params_form *form, const char *name, const char *v
     return fits;
 }
 
+/* Appends a list. It cuts the text of the items. */
+static bool append_list(mysql_params_form *form, const char *name, char *items, bool implicit)
+{
+    if (!mysql_params_begin_list(form, name))
+        return false;
+    if (implicit)
+        make_implicit(form, IMPLICIT_LIST);
+    append_items(form, items);
+    return mysql_params_end_list(form);
+}
+
 /* Appends what isn't one value to the form. */
 static bool append_fragment(mysql_params_form *form, const char *name, const char *value)
 {
     char copy[512];
     snprintf(copy, sizeof copy, "%s", strchr(value, ':') + 1);
-    if (begins(value, "list:")) {
-        mysql_params_begin_list(form, name);
-        append_items(form, copy);
-        return mysql_params_end_list(form);
-    }
-    if (begins(value, "rows:"))
-        return append_rows(form, name, copy);
+    bool implicit = begins(value, "implicit_");
+    if (begins(value, "list:") || begins(value, "implicit_list:"))
+        return append_list(form, name, copy, implicit);
+    if (begins(value, "rows:") || begins(value, "implicit_rows:"))
+        return append_rows(form, name, copy, implicit);
     if (begins(value, "qualified:"))
         return append_qualified(form, name, copy);
     if (begins(value, "identifiers:"))
@@ -259,10 +280,11 @@ static bool append_fragment(mysql_params_form *form, const char *name, const cha
 
 static bool append_value(mysql_params_form *form, const char *name, const char *value)
 {
-    if (begins(value, "list:") || begins(value, "rows:") || begins(value, "identifier:") ||
-        begins(value, "qualified:") || begins(value, "keyword:") || begins(value, "identifiers:") ||
-        begins(value, "assignments:"))
-        return append_fragment(form, name, value);
+    static const char *const fragments[] = {"list:", "rows:", "implicit_list:", "implicit_rows:", "identifier:",
+                                            "qualified:", "keyword:", "identifiers:", "assignments:"};
+    for (size_t i = 0; i < sizeof fragments / sizeof fragments[0]; i++)
+        if (begins(value, fragments[i]))
+            return append_fragment(form, name, value);
     if (begins(value, "d:"))
         return mysql_params_append_decimal(form, name, value + 2);
     if (strcmp(value, "null") == 0)
@@ -306,7 +328,7 @@ static void append_param(bytes *to, char *param)
 static const char *const NUMBERS[] = {
     "DONE", "OUT_OF_MEMORY", "ROOM", "FORM_END", "FORM_LENGTH_LEAD", "FORM_TYPE", "FORM_MIXED", "FORM_REPEATED", "MIXED",
     "MISSING", "NAMED_FOR_POSITIONAL", "POSITIONAL_FOR_NAMED", "MARK_COUNT", "NOT_ALONE", "FLOAT",
-    "UNSTEADY", "UNPORTABLE", "FAULT", "BACKSLASH", "UNSTEADY_FRAGMENT"};
+    "UNSTEADY", "UNPORTABLE", "FAULT", "BACKSLASH", "UNSTEADY_FRAGMENT", "OTHER_TABLE", "UNBRACKETED"};
 
 /* The number of a name: its index in the names, from first to last. */
 static int32_t index_of(const char *name, const char *const *names, int32_t first, int32_t last)
@@ -320,7 +342,7 @@ static int32_t index_of(const char *name, const char *const *names, int32_t firs
 
 static int32_t number_of(const char *name)
 {
-    return index_of(name, NUMBERS, 0, MYSQL_PARAMS_UNSTEADY_FRAGMENT);
+    return index_of(name, NUMBERS, 0, MYSQL_PARAMS_UNBRACKETED);
 }
 
 /* Reads one FIELD=VALUE of a refusal or a construct. What Rust and Python tell alone is read over. */

@@ -11,6 +11,7 @@
  * - `d:DIGITS`: an exact number
  * - `list:VALUE|VALUE..`: a list; `list:` is empty
  * - `rows:VALUE|VALUE||VALUE..`: rows, with two bars between them
+ * - `implicit_list:VALUE|VALUE..`, `implicit_rows:VALUE|VALUE||VALUE..`: the same, of which the program didn't say that they are such
  * - `identifier:TEXT`, `qualified:TEXT|TEXT`: a name; one in another
  * - `identifiers:TEXT||TEXT|TEXT..`: names, single or in another; `identifiers:` is empty
  * - `assignments:TEXT=VALUE||TEXT|TEXT=VALUE..`: columns and their items; `assignments:` is empty

@@ -568,7 +568,7 @@ inline std::string bind_fragments(std::string_view query, const Form &form, Mode
     return detail::bound_in(mysql_params_bind_fragments_wide, query, form, mode);
 }
 
-/* As bind, with a text that no sql_mode and no character set reads otherwise, on MySQL or MariaDB. The query has to be ASCII
+/* As bind, with literals whose ends no sql_mode and no character set moves, on MySQL or MariaDB. The query has to be ASCII
  * without a backslash, and portable, for which it is asked. Throws Error. */
 inline std::string bind_anywhere(std::string_view query, const Form &form = {})
 {
@@ -579,6 +579,13 @@ inline std::string bind_anywhere(std::string_view query, const Form &form = {})
 inline std::string bind_fragments_anywhere(std::string_view query, const Form &form = {})
 {
     return detail::bound_anywhere(mysql_params_bind_fragments_anywhere_wide, query, form);
+}
+
+/* As bind_fragments_anywhere, with literals that have the connection's collation. The connection is taken to be in this mode
+ * over utf8mb4; no other mode or character set, except swe7, moves a literal's end. Throws Error. */
+inline std::string bind_fragments_guarded(std::string_view query, const Form &form, Mode mode = Mode::backslash_escapes)
+{
+    return detail::bound_in(mysql_params_bind_fragments_guarded_wide, query, form, mode);
 }
 
 /* As bind_anywhere, of a query that may have bytes from 128 on. The connection's character set has to be that of the query,

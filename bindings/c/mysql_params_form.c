@@ -694,12 +694,19 @@ static void append_alphabet(line *to, const uint8_t *query, size_t query_len, si
         append_byte(to, '`');
 }
 
-/* Returns whether a point stands directly before or after the place at a byte of the query, as in `b.:c`. */
-static bool is_beside_point(const line *to, const uint8_t *query, size_t query_len, size_t at)
+/* Returns where the place at a byte of the query ends. */
+static size_t place_end(const line *to, const uint8_t *query, size_t query_len, size_t at)
 {
     size_t end = at + 1;
     while (query[at] == ':' && end < query_len && is_of_names(to, query[end]))
         end++;
+    return end;
+}
+
+/* Returns whether a point stands directly before or after the place at a byte of the query, as in `b.:c`. */
+static bool is_beside_point(const line *to, const uint8_t *query, size_t query_len, size_t at)
+{
+    size_t end = place_end(to, query, query_len, at);
     return (at > 0 && query[at - 1] == '.') || (end < query_len && query[end] == '.');
 }
 
@@ -859,6 +866,23 @@ static void append_fault(line *to, const mysql_params_report *report)
     }
 }
 
+/* Appends the message of a list that isn't alone in brackets, with its place as the query has it. */
+static void append_unbracketed(line *to, const mysql_params_report *report, const uint8_t *query, size_t query_len)
+{
+    size_t at = report->position;
+    bool known = at < query_len;
+    const uint8_t *place = known ? query + at : (const uint8_t *)"?";
+    size_t len = known ? place_end(to, query, query_len, at) - at : 1;
+    append_byte(to, '`');
+    append_shown(to, place, len);
+    append_byte(to, '`');
+    if (*place == '?')
+        append_text(to, " at byte %zu", at);
+    append_text(to, " is one value here, and was given a list: write it alone in brackets, as `IN (");
+    append_shown(to, place, len);
+    append_text(to, ")`, or say by type 129 or 130 that several are meant");
+}
+
 /* Appends the message of any number. */
 static void append_message(line *to, int32_t number, const mysql_params_report *report,
                            const uint8_t *source, size_t source_len)
@@ -877,6 +901,8 @@ static void append_message(line *to, int32_t number, const mysql_params_report *
         append_unportable(to, report);
     } else if (number == MYSQL_PARAMS_FAULT) {
         append_fault(to, report);
+    } else if (number == MYSQL_PARAMS_UNBRACKETED) {
+        append_unbracketed(to, report, source, source_len);
     } else {
         append_of_numbers(to, number, report);
     }

@@ -1086,6 +1086,45 @@ static void forms_of_lists(void)
     mysql_params_form_free(&form);
 }
 
+/* Tries a call of the query `(?)` with a form, which is bound as a text, or refused for a type if there is none. */
+static void try_type(const uint8_t *form, size_t form_len, const char *text, uint8_t type)
+{
+    test_case it = {0};
+    it.line = form[1];
+    append_bytes(&it.query, "IN (?)", 6);
+    append_bytes(&it.form, form, form_len);
+    append_bytes(&it.answer, text, strlen(text));
+    it.report.len = it.answer.len;
+    if (it.answer.len == 0) {
+        it.number = MYSQL_PARAMS_FORM_TYPE;
+        it.report.byte = type;
+    }
+    try_rooms(&it);
+    clear_bytes(&it.query);
+    clear_bytes(&it.form);
+    clear_bytes(&it.answer);
+}
+
+/* The types of implicit lists and rows, in forms written by hand from mysql_params.h: calls of values take neither, and no list
+ * has one in it. */
+static void implicit_types(void)
+{
+    static const uint8_t list[] = {0, 136, 0, 2, 0, 0, 0, 6, 0, 6, 0}; /* two times NULL */
+    static const uint8_t rows[] = {0, 137, 255, 1, 0, 0, 0, 1, 0, 0, 0, 6, 0};
+    static const uint8_t list_in_list[] = {0, 129, 0, 1, 0, 0, 0, 136, 0, 1, 0, 0, 0, 6, 0};
+    static const uint8_t rows_in_list[] = {0, 136, 0, 1, 0, 0, 0, 137, 0, 1, 0, 0, 0, 1, 0, 0, 0, 6, 0};
+    static const uint8_t next_type[] = {0, 138, 0, 1, 0, 0, 0, 6, 0};
+    tried = BIND;
+    try_type(list, sizeof list, "", 136);
+    try_type(rows, sizeof rows, "", 137);
+    tried = BIND_FRAGMENTS;
+    try_type(list, sizeof list, "IN (NULL, NULL)", 0);
+    try_type(rows, sizeof rows, "IN ((NULL))", 0);
+    try_type(list_in_list, sizeof list_in_list, "", 136);
+    try_type(rows_in_list, sizeof rows_in_list, "", 137);
+    try_type(next_type, sizeof next_type, "", 138);
+}
+
 /* Identifiers and assignments in their form, of which some columns have a table; written by hand from mysql_params.h. */
 static const uint8_t columns_form[] = {
     7, 'c', 'o', 'l', 'u', 'm', 'n', 's', 134, 0, 2, 0, 0, 0, /* two identifiers */
@@ -1452,18 +1491,24 @@ static void other_messages(void)
         {MYSQL_PARAMS_BACKSLASH, "Backslash in a string at byte 0 of the query"},
         {MYSQL_PARAMS_UNSTEADY_FRAGMENT, "Fragment at place 0 has a name with a backslash or a byte that is not ASCII"},
         {MYSQL_PARAMS_OTHER_TABLE, "The table is that of another query"},
-        {MYSQL_PARAMS_OTHER_TABLE + 1, "Unknown number 21"},
+        {MYSQL_PARAMS_UNBRACKETED, "`:a` is one value here, and was given a list: write it alone in brackets, as "
+                                   "`IN (:a)`, or say by type 129 or 130 that several are meant"},
+        {MYSQL_PARAMS_UNBRACKETED + 1, "Unknown number 22"},
         {-1, "Unknown number -1"},
     };
     mysql_params_report report = {0};
     report.len = 7;
     for (size_t i = 0; i < sizeof wanted / sizeof wanted[0]; i++) {
-        char line[96];
+        char line[160];
         test_case it = {0};
         it.line = (int)i;
         mysql_params_message(wanted[i].number, &report, (const uint8_t *)":a", 2, line, sizeof line);
         expect(strcmp(line, wanted[i].message) == 0, &it, line);
     }
+    test_case it = {0};
+    char line[160];
+    mysql_params_message(MYSQL_PARAMS_UNBRACKETED, &report, NULL, 0, line, sizeof line);
+    expect(strncmp(line, "`?` at byte 0 is one value here", 31) == 0, &it, line);
 }
 
 /* What is said of a place that doesn't stand alone: of one beside a point what to write instead. */
@@ -1503,16 +1548,17 @@ static void messages_of_neighbours(void)
 static void words_of_cut_queries(void)
 {
     static const size_t positions[] = {0, 1, 2, 3, 4, SIZE_MAX - 1, SIZE_MAX};
-    static const int32_t numbers[] = {MYSQL_PARAMS_MISSING, MYSQL_PARAMS_NOT_ALONE, MYSQL_PARAMS_NAMED_FOR_POSITIONAL};
+    static const int32_t numbers[] = {MYSQL_PARAMS_MISSING, MYSQL_PARAMS_NOT_ALONE, MYSQL_PARAMS_NAMED_FOR_POSITIONAL,
+                                      MYSQL_PARAMS_UNBRACKETED};
     for (size_t len = 0; len <= 3; len++) {
         uint8_t *query = exact_copy((bytes){(uint8_t *)":aB", len});
-        for (size_t i = 0; i < 7 * 3; i++) {
+        for (size_t i = 0; i < 7 * 4; i++) {
             char line[128];
-            int32_t number = numbers[i % 3];
+            int32_t number = numbers[i % 4];
             test_case it = {0};
             it.line = (int)(100 * len + i);
             mysql_params_report report = {0};
-            report.position = positions[i / 3];
+            report.position = positions[i / 4];
             mysql_params_message(number, &report, query, len, line, sizeof line);
             bool of_place = number == MYSQL_PARAMS_NOT_ALONE && report.position == 0;
             bool of_name = number == MYSQL_PARAMS_MISSING && (report.position == 1 || report.position == 2);
@@ -1603,6 +1649,22 @@ static bool passed(const char *name, void (*test)(void))
     return failures == 0;
 }
 
+/* A backslash in either mode, as "Guarded binding" of docs/RULES.md has it. */
+static void guarded_fragments(void)
+{
+    test_case it = {0};
+    const uint8_t query[] = "= :Ab", form[] = "\2Ab\375\0\1\\";
+    const char *const texts[] = {"= '\\\\'", "= _utf8mb4 0x5C"};
+    for (int mode = 0; mode < 2; mode++) {
+        uint8_t room[32];
+        mysql_params_report report;
+        const int32_t number = mysql_params_bind_fragments_guarded_wide(query, sizeof query - 1, form, sizeof form - 1, mode,
+                                                                        room, sizeof room, &report);
+        expect(number == MYSQL_PARAMS_DONE && report.len == strlen(texts[mode]) &&
+               memcmp(room, texts[mode], report.len) == 0, &it, "another guarded text is wanted");
+    }
+}
+
 int main(int count, char **words)
 {
     if (count != 2) {
@@ -1619,7 +1681,9 @@ int main(int count, char **words)
     all &= passed("templates_in_memory", templates_in_memory);
     all &= passed("table_of_fragments", table_of_fragments);
     all &= passed("table_of_steady_fragments", table_of_steady_fragments);
+    all &= passed("guarded_fragments", guarded_fragments);
     all &= passed("forms_of_lists", forms_of_lists);
+    all &= passed("implicit_types", implicit_types);
     all &= passed("forms_of_assignments", forms_of_assignments);
     all &= passed("misplaced_parameters", misplaced_parameters);
     all &= passed("faults_of_assignments", faults_of_assignments);

@@ -341,6 +341,19 @@ static void steady_fragments()
     }
 }
 
+/* Fragments in guarded texts. They are restated from "Guarded binding" in docs/RULES.md. */
+static void guarded_fragments()
+{
+    using mysql_params::bind_fragments_guarded;
+    mysql_params::Form form;
+    form.append_list("Ids", std::vector<std::string>{"it's", "\xC3\xA9\\", "\xFF"}).append_identifier("T", "a`b");
+    same(bind_fragments_guarded(":T IN (:Ids)", form), "`a``b` IN ('it''s', '\xC3\xA9' '\\\\', 0xFF)");
+    same(bind_fragments_guarded(":T IN (:Ids)", form, Mode::no_backslash_escapes),
+         "`a``b` IN ('it''s', _utf8mb4 0xC3A95C, 0xFF)");
+    same(thrown([] { bind_fragments_guarded("\\ ?", {1}); }),
+         thrown([] { mysql_params::bind_fragments_anywhere("\\ ?", {1}); }));
+}
+
 static void rows()
 {
     using mysql_params::bind_rows;
@@ -670,6 +683,7 @@ int main(int count, char **words)
     all &= passed("floats", floats);
     all &= passed("steady_texts", steady_texts);
     all &= passed("steady_fragments", steady_fragments);
+    all &= passed("guarded_fragments", guarded_fragments);
     all &= passed("rows", rows);
     all &= passed("templates", templates);
     all &= passed("wide_names", wide_names);

@@ -20,7 +20,7 @@ use Rattle.mysql_fragments.specs.declared.fragment.Fragment.{Fragment}
 use Rattle.mysql_fragments.specs.declared.fragment_ref.FragmentRef.TheVariants as borrowed
 use Rattle.mysql_fragments.proofs.SaidExistLemmas.{one_said}
 use Rattle.mysql_flat_params.specs.FiniteDouble.{fragment_of_value}
-use Rattle.mysql_flat_params.specs.FlatFragments.{map_form, read_all, read_fragment, read_fragment_of, read_items}
+use Rattle.mysql_flat_params.specs.FlatFragments.{layout_type, map_form, read_all, read_fragment, read_fragment_of, read_items}
 use Rattle.mysql_flat_params.specs.FormInPlace.{IsKeptAs, cell_content, rows_content}
 use Rattle.mysql_flat_params.specs.FragmentContent.{content_of, item_content, items_content, list, rows}
 use Rattle.mysql_flat_params.specs.declared.fragment_in_place.FragmentInPlace.{FragmentInPlace}
@@ -133,15 +133,16 @@ module _ (place position flags : ℕ) (bytes : List ℕ) where
       (λ why e. value_typed n apart ∙ ap (map_form fragment_of_value) e) (λ _. tt) h
 
 -- a list or rows that are kept after a type and flags are those that are read
-pub kept_read : (place position : ℕ) (bytes rest : List ℕ) (read : Option FragmentInPlace) (one : FragmentInPlace) → 2 ≤ length bytes → read ≡ Some one →
+pub kept_read : (place position : ℕ) (bytes rest : List ℕ) (layout : ℕ) → layout ≡ layout_type (get_or bytes 0 0) →
+    (read : Option FragmentInPlace) (one : FragmentInPlace) → 2 ≤ length bytes → read ≡ Some one →
     IfSome read (λ each. (said : Fragment) × IsKeptAs each said
-    × ((flags : ℕ) → read_fragment_of place position (get_or bytes 0 0) flags (take (length bytes - 2) (drop 2 bytes)) ≡ Ok (content_of said, rest))) →
+    × ((flags : ℕ) → read_fragment_of place position layout flags (take (length bytes - 2) (drop 2 bytes)) ≡ Ok (content_of said, rest))) →
     (said : Fragment) × IsKeptAs one said × (read_fragment place position bytes ≡ Ok (content_of said, rest))
-kept_read place position bytes rest None one two is h = cc
-kept_read place position bytes rest (Some each) one two is h =
+kept_read place position bytes rest layout layout_is None one two is h = cc
+kept_read place position bytes rest layout layout_is (Some each) one two is h =
     let same : each ≡ one = cc in
     subst (λ z. (said : Fragment) × IsKeptAs z said × (read_fragment place position bytes ≡ Ok (content_of said, rest))) same
-    (h.0, h.1, fragment_typed place position bytes two ∙ h.2 (get_or bytes 1 0))
+    (h.0, h.1, fragment_typed place position bytes layout layout_is two ∙ h.2 (get_or bytes 1 0))
 
 -- borrowed rows are the same rows
 pub rows_lent : (r : RowsInPlace) (b : RowsRef) → b.cells.now ≡ r.cells.items → b.width ≡ r.width →

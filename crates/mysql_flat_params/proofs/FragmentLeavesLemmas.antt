@@ -7,7 +7,7 @@ use Rattle.mysql_wire_part.specs.Lenenc.{read_lenenc}
 use Rattle.mysql_fragments.specs.GivenFragments.{GivenFragments}
 use Rattle.mysql_flat_params.specs.FlatForm.{FormRefusal, FormReading, read_name, read_value}
 use Rattle.mysql_flat_params.proofs.LeavesLemmas.{Leaves, leaves_lenenc, leaves_value, leaves_in}
-use Rattle.mysql_flat_params.specs.FlatFragments.{map_form, and_then_form, read_count, read_each, read_all, read_item, read_items, read_names, read_assignment, read_keyword, read_fragment, read_parameter, fragment_unless, name_refusal, number_type, list_type, rows_type, identifier_type, qualified_type, keyword_type, identifiers_type, assignments_type}
+use Rattle.mysql_flat_params.specs.FlatFragments.{map_form, and_then_form, read_count, read_each, read_all, read_item, read_items, read_names, read_assignment, read_keyword, read_fragment, read_parameter, fragment_unless, name_refusal, number_type, list_type, rows_type, identifier_type, qualified_type, keyword_type, identifiers_type, assignments_type, layout_type, read_fragment_of}
 
 leaves_if : {X : Type 0} (n : ℕ) (b : Bool) (x y : FormReading X) → Leaves n x → Leaves n y → Leaves n (if b then x else y)
 leaves_if n true x y hx hy = hx
@@ -86,10 +86,8 @@ module _ (place position : ℕ) where
   leaves_keyword : (bytes : List ℕ) → Leaves (length bytes) (read_keyword place position bytes)
   leaves_keyword bytes = leaves_map (length bytes) _ (read_name place position bytes) (leaves_name place position bytes)
 
-  leaves_fragment : (bytes : List ℕ) → Leaves (length bytes) (read_fragment place position bytes)
-  leaves_fragment [] = tt
-  leaves_fragment (type ∷ []) = tt
-  leaves_fragment (type ∷ flags ∷ bytes) =
+  leaves_layout : (type flags : ℕ) (bytes : List ℕ) → Leaves (length (type ∷ flags ∷ bytes)) (read_fragment_of place position type flags bytes)
+  leaves_layout type flags bytes =
       leaves_if _ (type == number_type) _ _ (after_type type flags bytes _ (leaves_map (length bytes) _ _ (leaves_name place position bytes)))
       (leaves_if _ (type == list_type) _ _ (after_type type flags bytes _ (leaves_map (length bytes) _ _ (leaves_items bytes)))
       (leaves_if _ (type == rows_type) _ _
@@ -104,6 +102,11 @@ module _ (place position : ℕ) where
       (after_type type flags bytes _ (leaves_map (length bytes) _ _ (leaves_all (read_assignment place position) leaves_assignment place position bytes)))
       (leaves_map (length (type ∷ flags ∷ bytes)) _ (read_value place position (type ∷ flags ∷ bytes))
       (leaves_typed place position type flags bytes)))))))))
+
+  leaves_fragment : (bytes : List ℕ) → Leaves (length bytes) (read_fragment place position bytes)
+  leaves_fragment [] = tt
+  leaves_fragment (type ∷ []) = tt
+  leaves_fragment (type ∷ flags ∷ bytes) = leaves_layout (layout_type type) flags bytes
 
   leaves_unless : (refusal : Option FormRefusal) (name bytes : List ℕ) → Leaves (length bytes) (fragment_unless refusal place position name bytes)
   leaves_unless (Some e) name bytes = tt

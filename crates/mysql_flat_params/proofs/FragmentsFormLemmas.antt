@@ -1,6 +1,6 @@
 -- After each parameter, the reading of a form is the reading of the bytes that are left.
 use Rattle.std.specs.Prelude.{Result, Ok, ⊤}
-use Rattle.std.proofs.Common.{◌≡◌, ◌≢◌, ℕ, ◌+◌, ◌-◌, ◌<◌, ◌≤◌, List, [], ◌∷◌, length, take, drop, get_or, inl, inr, refl, sym, ap, subst, arith}
+use Rattle.std.proofs.Common.{◌≡◌, ◌≢◌, ℕ, ◌+◌, ◌-◌, ◌<◌, ◌≤◌, List, [], ◌∷◌, length, take, drop, get_or, inl, inr, refl, sym, ap, ◌∙◌, subst, arith}
 use Rattle.std.proofs.lemmas.List.{take_rest}
 use Rattle.mysql_wire_part.specs.Answer.{IsExpectedRefusal}
 use Rattle.mysql_fragments.specs.GivenFragments.{GivenFragments, positional}
@@ -10,7 +10,7 @@ use Rattle.mysql_flat_params.specs.FormErrors.{form_refusal}
 use Rattle.mysql_flat_params.specs.declared.form_error.FormError.{FormError}
 use Rattle.mysql_flat_params.specs.declared.form_error.FormError.TheVariants.{End, LengthLead, UnsupportedType, Mixed, Repeated, Memory}
 use Rattle.mysql_flat_params.proofs.LeavesLemmas.{Leaves}
-use Rattle.mysql_flat_params.specs.FlatFragments.{IsFormReading, IsReadFrom, read_fragment, read_fragment_of, read_on, read_parameter, read_to_end, refused_at, with_parameter}
+use Rattle.mysql_flat_params.specs.FlatFragments.{IsFormReading, IsReadFrom, layout_type, read_fragment, read_fragment_of, read_on, read_parameter, read_to_end, refused_at, with_parameter}
 use Rattle.mysql_flat_params.specs.FragmentContent.{content_of}
 use Rattle.mysql_flat_params.specs.FragmentsFormErrors.{IsFormRefusal}
 use Rattle.mysql_flat_params.proofs.FragmentLeavesLemmas.{leaves_parameter}
@@ -60,10 +60,11 @@ never_left form [] place none within some = absurd (some refl)
 never_left form (b ∷ rest) place none within some = absurd (omega (arith, ap length none))
 
 -- bytes that begin with a type and flags
-pub fragment_typed : (place position : ℕ) (bytes : List ℕ) → 2 ≤ length bytes →
+pub fragment_typed : (place position : ℕ) (bytes : List ℕ) (layout : ℕ) → layout ≡ layout_type (get_or bytes 0 0) → 2 ≤ length bytes →
     read_fragment place position bytes
-    ≡ read_fragment_of place position (get_or bytes 0 0) (get_or bytes 1 0) (take (length bytes - 2) (drop 2 bytes))
-fragment_typed place position [] two = absurd (omega arith)
-fragment_typed place position (type ∷ []) two = absurd (omega arith)
-fragment_typed place position (type ∷ flags ∷ bytes) two =
-    ap (read_fragment_of place position type flags) (sym (take_rest (type ∷ flags ∷ bytes) 2))
+    ≡ read_fragment_of place position layout (get_or bytes 1 0) (take (length bytes - 2) (drop 2 bytes))
+fragment_typed place position [] layout is two = absurd (omega arith)
+fragment_typed place position (type ∷ []) layout is two = absurd (omega arith)
+fragment_typed place position (type ∷ flags ∷ bytes) layout is two =
+    ap (λ n. read_fragment_of place position n flags bytes) (sym is)
+    ∙ ap (read_fragment_of place position layout flags) (sym (take_rest (type ∷ flags ∷ bytes) 2))

@@ -11,7 +11,7 @@ use Rattle.mysql_named_params.specs.Reading.{OnTokensIn}
 use Rattle.mysql_named_params.specs.declared.places.Reading.{Reading}
 use Rattle.mysql_binding.specs.FirstCause.{mark_count_differs}
 use Rattle.mysql_binding.specs.StandsAlone.{first_not_alone}
-use Rattle.mysql_fragments.specs.FragmentErrors.{Cause, IsCauseOrMemory, cause_of, cause_of_places, count_cause, fault_cause, faulty, first_cause, first_fault_from, float_cause, float_value, later_cause, literal_float, mark_count, mixed_query, not_alone, not_alone_cause, refused_fragments}
+use Rattle.mysql_fragments.specs.FragmentErrors.{Cause, cause_of, cause_of_places, count_cause, fault_cause, faulty, first_cause, first_fault_from, float_cause, float_value, later_cause, literal_float, mark_count, mixed_query, not_alone, not_alone_cause, refused_fragments}
 use Rattle.mysql_fragments.specs.GivenFragments.{FragmentMap, GivenFragments, PlaceRefusal, fragments_at, fragments_for, missing, named, positional, with_first}
 use Rattle.mysql_fragments.specs.declared.fragment.Fragment.{Fragment}
 use Rattle.mysql_fragments.specs.declared.fragments_error.FragmentFault.{FragmentFault}
@@ -27,8 +27,14 @@ use Rattle.mysql_flat_params.specs.Outcomes as values
 use Rattle.mysql_flat_params.specs.Outcomes.{text_outcome}
 use Rattle.mysql_flat_params.specs.declared.outcome.Outcome.{Outcome}
 use Rattle.mysql_flat_params.specs.declared.outcome.Outcome.TheVariants as outcome
-use Rattle.mysql_flat_params.specs.FlatFragments.{IsFormReading}
-use Rattle.mysql_flat_params.specs.FragmentsIntoRoom.{IsBoundFormIn, IsOutcomeAsValuesIn, IsRefusedForIn}
+use Rattle.mysql_named_params.proofs.ReadingLemmas.{one_reading}
+use Rattle.mysql_binding.proofs.TextInRoomLemmas.{each_in_room}
+use Rattle.mysql_flat_params.specs.FormCauses.{FormCause, IsFormCauseOrMemory, first_form_cause, form_cause_of, of_fragments, unbracketed_place}
+use Rattle.mysql_flat_params.specs.FormKinds.{FormKinds, IsKnownForm}
+use Rattle.mysql_flat_params.specs.declared.form_refusal.KeptError.{KeptError}
+use Rattle.mysql_flat_params.specs.declared.form_refusal.KeptError.TheVariants.{Fragments}
+use Rattle.mysql_flat_params.proofs.FormCauseLemmas.{first_of_fragments}
+use Rattle.mysql_flat_params.specs.FragmentsIntoRoom.{IsBoundFormIn, IsBoundTo, IsOutcomeAsValuesIn, IsRefusedForIn}
 
 -- ---- a missing name is one of the query's
 
@@ -106,16 +112,16 @@ missing_is_name ts given absent e =
 
 -- ---- an error with a cause is that of the first cause
 
-module _ (error : FragmentsError) (cause : Cause) (is : cause_of error ≡ Some cause) where
-  cause_is_first : (first : Option Cause) → IsCauseOrMemory first error → first ≡ Some cause
+module _ (error : KeptError) (cause : FormCause) (is : form_cause_of error ≡ Some cause) where
+  cause_is_first : (first : Option FormCause) → IsFormCauseOrMemory first error → first ≡ Some cause
   cause_is_first first (inl memory) =
-      let never : Some cause ≡ None = sym is ∙ ap cause_of memory in
+      let never : Some cause ≡ None = sym is ∙ ap form_cause_of memory in
       cc
   cause_is_first first (inr why) = why.1 ∙ (sym why.2 ∙ is)
 
-  pub refused_for : (reading : Reading) (query form : List ℕ) (given : GivenFragments) → IsFormReading form (Ok given) →
-      OnTokensIn reading query (λ ts. IsCauseOrMemory (first_cause true ts given) error) → IsRefusedForIn reading query form cause
-  refused_for reading query form given reads o = (given, reads, (o.0, o.1, cause_is_first (first_cause true o.0 given) o.2))
+  pub refused_for : (reading : Reading) (query form : List ℕ) (given : GivenFragments) (kinds : FormKinds) → IsKnownForm form given kinds →
+      OnTokensIn reading query (λ ts. IsFormCauseOrMemory (first_form_cause kinds ts given) error) → IsRefusedForIn reading query form cause
+  refused_for reading query form given kinds reads o = (given, kinds, reads, (o.0, o.1, cause_is_first (first_form_cause kinds o.0 given) o.2))
 
 -- the cause of an error that holds a missing name
 pub is_missing : (why : FragmentsError) (held : MissingNamedParameterError) (name : List ℕ) → why ≡ error.Missing held → name ≡ held.0.items →
@@ -123,33 +129,47 @@ pub is_missing : (why : FragmentsError) (held : MissingNamedParameterError) (nam
 is_missing why held name is name_is = ap cause_of is ∙ ap (λ n. Some (refused_fragments (missing n))) (sym name_is)
 
 pub name_is_there : (reading : Reading) (query name : List ℕ) (error : FragmentsError) → cause_of error ≡ Some (refused_fragments (missing name)) →
-    ((given : GivenFragments) × OnTokensIn reading query (λ ts. IsCauseOrMemory (first_cause true ts given) error)) →
+    ((given : GivenFragments) × (kinds : FormKinds) × OnTokensIn reading query (λ ts. IsFormCauseOrMemory (first_form_cause kinds ts given) (Fragments error))) →
     OnTokensIn reading query (λ ts. Contains (names ts) name)
-name_is_there reading query name error is (given, o) =
-    (o.0, o.1, missing_is_name o.0 given name (cause_is_first error (refused_fragments (missing name)) is (first_cause true o.0 given) o.2))
+name_is_there reading query name error is (given, kinds, o) =
+    let first = cause_is_first (Fragments error) (of_fragments (refused_fragments (missing name))) (ap (option_map of_fragments) is) (first_form_cause kinds o.0 given) o.2 in
+    (o.0, o.1, missing_is_name o.0 given name (first_of_fragments (unbracketed_place kinds o.0) (first_cause true o.0 given) (refused_fragments (missing name)) first))
 
 -- the outcome reports its place
-pub missing_told : (reading : Reading) (query form name : List ℕ) (told : Outcome) → IsRefusedForIn reading query form (refused_fragments (missing name)) →
+pub missing_told : (reading : Reading) (query form name : List ℕ) (told : Outcome) → IsRefusedForIn reading query form (of_fragments (refused_fragments (missing name))) →
     IsMissingNameIn reading query name told → IsOutcomeAsValuesIn reading query form told
 missing_told reading query form name (outcome.Missing place position len) refused is = (name, refused, is)
 missing_told reading query form name told refused is = absurd is
 
 -- ---- a text in the room
 
-module _ (reading : Reading) (query form : List ℕ) (given : GivenFragments) (reads : IsFormReading form (Ok given)) (old new : List ℕ) (text : TextInRoom)
-    (h : OnTokensIn reading query (λ ts. IsTextInRoom (IsBoundFragments reading.no_backslash_escape ts given) (HasTextOf (IsBoundFragments reading.no_backslash_escape ts given)) old new text)) where
+-- the fragments may stand in their places
+pub stands_in_room : (reading : Reading) (query : List ℕ) (given : GivenFragments) (kinds : FormKinds) (old new : List ℕ) (text : TextInRoom) →
+    OnTokensIn reading query (λ ts. unbracketed_place kinds ts ≡ None) →
+    OnTokensIn reading query (λ ts. IsTextInRoom (IsBoundFragments reading.no_backslash_escape ts given) (HasTextOf (IsBoundFragments reading.no_backslash_escape ts given)) old new text) →
+    OnTokensIn reading query (λ ts. IsTextInRoom (IsBoundTo reading given kinds ts) (HasTextOf (IsBoundTo reading given kinds ts)) old new text)
+stands_in_room reading query given kinds old new text n h =
+    let none : unbracketed_place kinds h.0 ≡ None = subst (λ ts. unbracketed_place kinds ts ≡ None) (one_reading reading query n.0 h.0 n.1 h.1) n.2 in (
+      h.0,
+      h.1,
+      each_in_room (IsBoundFragments reading.no_backslash_escape h.0 given) (IsBoundTo reading given kinds h.0) (HasTextOf (IsBoundFragments reading.no_backslash_escape h.0 given)) old new text
+          (λ x b. (none, b)) (λ len (x, b, long). (x, (none, b), long)) h.2,
+    )
+
+module _ (reading : Reading) (query form : List ℕ) (given : GivenFragments) (kinds : FormKinds) (reads : IsKnownForm form given kinds) (old new : List ℕ) (text : TextInRoom)
+    (h : OnTokensIn reading query (λ ts. IsTextInRoom (IsBoundTo reading given kinds ts) (HasTextOf (IsBoundTo reading given kinds ts)) old new text)) where
   pub bound_told : length new ≡ length old → (outcome : Outcome) → outcome ≡ text_outcome text → IsOutcomeAsValuesIn reading query form outcome
   bound_told same outcome is = subst (IsOutcomeAsValuesIn reading query form) (sym is) (told text h)
     where
-      told : (text : TextInRoom) → OnTokensIn reading query (λ ts. IsTextInRoom (IsBoundFragments reading.no_backslash_escape ts given) (HasTextOf (IsBoundFragments reading.no_backslash_escape ts given)) old new text) →
+      told : (text : TextInRoom) → OnTokensIn reading query (λ ts. IsTextInRoom (IsBoundTo reading given kinds ts) (HasTextOf (IsBoundTo reading given kinds ts)) old new text) →
           IsOutcomeAsValuesIn reading query form (text_outcome text)
-      told (Written len) (ts, is, (fits, bound, rest)) = (take len new, (given, reads, (ts, is, bound)), length-take-le len new (omega (arith, fits, same)))
-      told (TooShort len) (ts, is, (short, (bound, is_bound, long), rest)) = (bound, (given, reads, (ts, is, is_bound)), long)
+      told (Written len) (ts, is, (fits, bound, rest)) = (take len new, (given, kinds, reads, (ts, is, bound)), length-take-le len new (omega (arith, fits, same)))
+      told (TooShort len) (ts, is, (short, (bound, is_bound, long), rest)) = (bound, (given, kinds, reads, (ts, is, is_bound)), long)
 
   pub bound_written : (outcome : Outcome) → outcome ≡ text_outcome text → values.IfDone outcome (λ len. IsBoundFormIn reading query form (take len new))
   bound_written outcome is = subst (λ o. values.IfDone o (λ len. IsBoundFormIn reading query form (take len new))) (sym is) (written text h)
     where
-      written : (text : TextInRoom) → OnTokensIn reading query (λ ts. IsTextInRoom (IsBoundFragments reading.no_backslash_escape ts given) (HasTextOf (IsBoundFragments reading.no_backslash_escape ts given)) old new text) →
+      written : (text : TextInRoom) → OnTokensIn reading query (λ ts. IsTextInRoom (IsBoundTo reading given kinds ts) (HasTextOf (IsBoundTo reading given kinds ts)) old new text) →
           values.IfDone (text_outcome text) (λ len. IsBoundFormIn reading query form (take len new))
-      written (Written len) (ts, is, (fits, bound, rest)) = (given, reads, (ts, is, bound))
+      written (Written len) (ts, is, (fits, bound, rest)) = (given, kinds, reads, (ts, is, bound))
       written (TooShort len) o = tt

@@ -21,8 +21,12 @@ pub mod FragmentLeavesLemmas
 pub mod FragmentsFormLemmas
 pub mod KeywordLemmas
 pub mod FragmentsRoomLemmas
+pub mod GuardedRoomLemmas
 pub mod FragmentsAnywhereLemmas
 pub mod FragmentInPlaceLemmas
 pub mod FragmentsInPlaceLemmas
 pub mod PlacedLemmas
 pub mod UnportableNumberLemmas
+pub mod FormKindsLemmas
+pub mod FormCauseLemmas
+pub mod UnbracketedLemmas

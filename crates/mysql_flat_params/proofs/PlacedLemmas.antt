@@ -2,7 +2,7 @@
 use Rattle.std.specs.Prelude.{Bool, Ok, Err, Result, Option, Some, None, option_map, IfOk, IfErr}
 use Rattle.std.specs.Borrow.{Bor}
 use Rattle.std.specs.FinMap.{get}
-use Rattle.std.proofs.Common.{◌≡◌, ◌+◌, ◌<◌, ℕ, zero, suc, List, [], ◌∷◌, ◌++◌, map, length, take, get_or, arith, inr, refl, sym, ap, ◌∙◌, subst, true, false, if◌then◌else◌}
+use Rattle.std.proofs.Common.{◌≡◌, ◌+◌, ◌<◌, ℕ, zero, suc, List, [], ◌∷◌, ◌++◌, map, length, take, get_or, arith, refl, sym, ap, ◌∙◌, subst, true, false, if◌then◌else◌}
 use Rattle.mysql_named_params.specs.Tokens.{Token}
 use Rattle.mysql_named_params.specs.Places.{has_both, names}
 use Rattle.mysql_named_params.specs.Reading.{OnTokensIn}
@@ -15,14 +15,14 @@ use Rattle.mysql_binding.specs.Survey.{IsSurvey}
 use Rattle.mysql_binding.specs.declared.binding.survey.Survey.{Survey}
 use Rattle.mysql_fragments.specs.declared.fragments_error.FragmentsError.{FragmentsError}
 use Rattle.mysql_fragments.specs.FilledText.{ArePlaced}
-use Rattle.mysql_fragments.proofs.CauseLemmas.{first_by, some_cause, no_error}
+use Rattle.mysql_fragments.proofs.CauseLemmas.{no_error}
 use Rattle.mysql_fragments.proofs.ExpandedLemmas.{refused_places}
 use Rattle.mysql_fragments.proofs.RoomLemmas.{placed_count}
-use Rattle.mysql_fragments.specs.FragmentErrors.{IsCauseOrMemory, IsPlaceRefusal, cause_of, first_cause, later_cause, mixed_cause, mixed_query}
+use Rattle.mysql_fragments.specs.FragmentErrors.{IsCauseOrMemory, IsPlaceRefusal, first_cause, later_cause, mixed_cause, mixed_query}
 use Rattle.mysql_fragments.specs.GivenFragments.{FragmentMap, GivenFragments, PlaceRefusal, fragments_at, fragments_for, missing, named, with_first}
 use Rattle.mysql_fragments.specs.declared.fragment.Fragment.{Fragment}
 use Rattle.mysql_fragments.specs.declared.fragment_ref.FragmentRef.{FragmentRef}
-use Rattle.mysql_flat_params.specs.FormInPlace.{AreKeptAs, IsFoundAs, IsKeptAs, IsMapKeptAs, kept_at}
+use Rattle.mysql_flat_params.specs.FormInPlace.{AreGivenTo, AreKeptAs, IsFoundAs, IsKeptAs, IsMapKeptAs, kept_at}
 use Rattle.mysql_flat_params.specs.declared.fragment_in_place.FragmentInPlace.{FragmentInPlace}
 use Rattle.mysql_fragments.proofs.PlaceLemmas.{named_some}
 
@@ -143,21 +143,17 @@ cause_refusal (Err error) reading query given survey o apart p = refused_places 
 
 -- the fragments for the places of a query are given to it, and these borrowed ones say them
 abbrev pub ArePlacedAs : (reading : Reading) (query : List ℕ) → GivenFragments → List FragmentRef → Type 0
-ArePlacedAs reading query given list = OnTokensIn reading query (λ ts. (mixed_cause ts ≡ None) × (said : List Fragment)
-    × (fragments_for given (names ts) ≡ Ok said) × AreSaid list said)
+ArePlacedAs reading query given list = OnTokensIn reading query (AreGivenTo given list)
+
+-- no later cause is no error of it
+pub later_none : (list : List FragmentRef) (survey : Survey) → ((ts : List Token) (said : List Fragment) → AreSaid list said → IsSurvey survey ts → later_cause true ts said ≡ None) →
+    (ts : List Token) (said : List Fragment) → AreSaid list said → IsSurvey survey ts → None ≡ option_map (λ x. Some x) (later_cause true ts said)
+later_none list survey none ts said are on = sym (ap (option_map (λ x. Some x)) (none ts said are on))
 
 module _ (reading : Reading) (query : List ℕ) (survey : Survey) (o : OnTokensIn reading query (IsSurvey survey)) (given : GivenFragments) (list : List FragmentRef)
     (p : ArePlacedAs reading query given list) where
   survey_on : IsSurvey survey p.0
   survey_on = subst (IsSurvey survey) (one_reading reading query o.0 p.0 o.1 p.1) o.2
-
-  pub refused_later : (error : FragmentsError) →
-      ((ts : List Token) (said : List Fragment) → AreSaid list said → IsSurvey survey ts → Some (cause_of error) ≡ option_map Some (later_cause true ts said)) →
-      OnTokensIn reading query (λ ts. IsCauseOrMemory (first_cause true ts given) error)
-  refused_later error cause =
-      let (ts, is, (unmixed, said, looked, are)) = p in
-      let (why, later, told) = some_cause (cause_of error) (later_cause true ts said) (cause ts said are survey_on) in
-      (ts, is, inr (why, first_by true ts given said (Some why) unmixed looked later, told))
 
   module _ (none : (ts : List Token) (said : List Fragment) → AreSaid list said → IsSurvey survey ts → None ≡ option_map (λ x. Some x) (later_cause true ts said)) where
     pub none_later : OnTokensIn reading query (λ ts. ArePlaced true ts given p.2.1)

@@ -3,8 +3,9 @@
 -- empty for a parameter by position; a byte, the number of a type; a byte of flags; and the content
 -- for this type. A column type has its value in binary form, as there. A finite float or double is
 -- a double here, which is written as a number. Eight numbers are types of this library's own, for
--- fragments that aren't one value. No column type has a number from 21 to 241 (ColumnNumbers.antt).
--- The eight are in the middle of that range, because the protocol took new numbers at both ends.
+-- fragments that aren't one value, and two more for lists and rows that are such only because a
+-- value was one. No column type has a number from 21 to 241 (ColumnNumbers.antt). The ten are in
+-- the middle of that range, because the protocol took new numbers at both ends.
 -- Their flags are ignored. A count is four bytes, least first ("Protocol::FixedLengthInteger"), so
 -- that it can be written after the things that it counts.
 use Rattle.std.specs.Prelude.{◌≡◌, ℕ, suc, zero, ◌+◌, ◌-◌, ◌==◌, List, [], ◌∷◌, ◌++◌, length, if◌then◌else◌, Option, Some, None, Result, Ok, Err}
@@ -53,6 +54,21 @@ identifiers_type = 134
 -- identifier, and its item, like one of a list
 abbrev pub assignments_type : ℕ
 assignments_type = 135
+
+-- an implicit list, which the program didn't say is one: laid out as a list
+abbrev pub implicit_list_type : ℕ
+implicit_list_type = 136
+
+-- implicit rows: laid out as rows
+abbrev pub implicit_rows_type : ℕ
+implicit_rows_type = 137
+
+-- the type whose layout this type has
+abbrev pub layout_type : ℕ → ℕ
+layout_type type =
+    if type == implicit_list_type then list_type
+    else if type == implicit_rows_type then rows_type
+    else type
 
 -- ---- readings
 
@@ -114,7 +130,7 @@ read_assignment place position bytes = and_then_form (read_names place position 
 abbrev pub read_keyword : (place position : ℕ) → List ℕ → FormReading (List ℕ)
 read_keyword place position bytes = map_form listed_keyword (read_name place position bytes)
 
--- a fragment after the number of its type and its flags
+-- a fragment after the number of the type whose layout it has, and its flags
 abbrev pub read_fragment_of : (place position type flags : ℕ) → List ℕ
     → FormReading FragmentContent
 read_fragment_of place position type flags bytes =
@@ -137,7 +153,7 @@ abbrev pub read_fragment : (place position : ℕ) → List ℕ → FormReading F
 read_fragment place position [] = Err (form_end place position)
 read_fragment place position (type ∷ []) = Err (form_end place position)
 read_fragment place position (type ∷ flags ∷ bytes) =
-    read_fragment_of place position type flags bytes
+    read_fragment_of place position (layout_type type) flags bytes
 
 -- ---- parameters
 

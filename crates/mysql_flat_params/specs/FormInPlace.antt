@@ -1,6 +1,6 @@
 -- Private: the fragments of a form that are kept in the form's own bytes, and the fragments of the
 -- same content.
-use Rattle.std.specs.Prelude.{◌≡◌, ℕ, List, [], ◌∷◌, map, Option, Some, None, ⊤}
+use Rattle.std.specs.Prelude.{◌≡◌, ◌⊎◌, ℕ, Bool, true, false, List, [], ◌∷◌, map, Option, Some, None, Ok, ⊤, alloc_error}
 use Rattle.std.specs.Borrow.{Bor}
 use Rattle.std.specs.FinMap.{get}
 use Rattle.std.specs.Global.{Vec}
@@ -10,8 +10,14 @@ use Rattle.std.specs.Cmp.Lexicographic.{slice_cmp}
 use Rattle.std.specs.Simd.{first_chunks}
 use Rattle.mysql_value_core.specs.declared.value.ValueRef.{ValueRef}
 use Rattle.mysql_values.specs.BorrowedValue.{owned}
-use Rattle.mysql_fragments.specs.BorrowedFragments.{cell_item}
-use Rattle.mysql_fragments.specs.GivenFragments.{FragmentMap, GivenFragments, named, positional}
+use Rattle.mysql_named_params.specs.NamesAndMarks.{names}
+use Rattle.mysql_named_params.specs.Tokens.{Token}
+use Rattle.mysql_fragments.specs.BorrowedFragments.{AreSaid, cell_item}
+use Rattle.mysql_fragments.specs.FragmentErrors.{Cause, cause_of, mixed_cause, mixed_query, refused_fragments}
+use Rattle.mysql_fragments.specs.GivenFragments.{FragmentMap, GivenFragments, fragments_for, named, positional}
+use Rattle.mysql_fragments.specs.declared.fragment_ref.FragmentRef.{FragmentRef}
+use Rattle.mysql_fragments.specs.declared.fragments_error.FragmentsError.{FragmentsError}
+use Rattle.mysql_fragments.specs.declared.fragments_error.FragmentsError.TheVariants.{Memory}
 use Rattle.mysql_fragments.specs.declared.fragment.Item.{Item}
 use Rattle.mysql_fragments.specs.declared.fragment.Fragment.{Fragment}
 use Rattle.mysql_fragments.specs.declared.fragment.Fragment.TheVariants as one
@@ -69,3 +75,19 @@ IsGivenAs (whole.Positional list) given =
     (said : List Fragment) × (given ≡ positional said) × AreKeptAs list.items said
 IsGivenAs (whole.Named entries) given =
     (fragments : FragmentMap) × (given ≡ named fragments) × IsMapKeptAs entries.entries fragments
+
+-- the query isn't mixed, and these borrowed fragments are those that are given to its places
+abbrev pub AreGivenTo : GivenFragments → List FragmentRef → List Token → Type 0
+AreGivenTo given placed ts = (mixed_cause ts ≡ None) × (said : List Fragment)
+    × (fragments_for given (names ts) ≡ Ok said) × AreSaid placed said
+
+-- a cause that is found before the places of the query are looked at
+abbrev pub is_early : Cause → Bool
+is_early mixed_query = true
+is_early (refused_fragments refusal) = true
+is_early cause = false
+
+-- the error reports such a cause, or is out of memory
+abbrev pub IsEarly : FragmentsError → Type 0
+IsEarly error = (error ≡ Memory alloc_error)
+    ⊎ ((why : Cause) × (cause_of error ≡ Some why) × (is_early why ≡ true))

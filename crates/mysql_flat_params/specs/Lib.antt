@@ -23,8 +23,12 @@ pub mod FragmentContent
 pub mod FiniteDouble
 pub mod Keywords
 pub mod FlatFragments
+pub mod FormKinds
+pub mod FormCauses
 pub mod FormInPlace
+pub mod KindsInPlace
 pub mod FragmentsFormErrors
 pub mod FragmentsOutcomes
 pub mod FragmentsIntoRoom
 pub mod FragmentsAnywhereIntoRoom
+pub mod AnywhereCalls

@@ -14,6 +14,7 @@ use crate::form_error::FormError;
 use crate::fragment_parts::{eat_columns, eat_names, eat_text};
 use crate::items::{NUMBER, eat_assignments, eat_items, eat_rows};
 use crate::keywords::listed_keyword;
+use crate::kinds_in_place::layout_type;
 use mysql_fragments::{Fragment, Keyword};
 use mysql_values::value::ValueRef;
 use mysql_wire_part::ParseBuf;
@@ -49,13 +50,13 @@ pub(crate) fn eat_fragment(
             position: spot.position,
         });
     };
-    let number = *number;
+    let number = layout_type(*number);
     let flags = *flags;
     *rest = ParseBuf(bytes);
     eat_fragment_of(alloc, spot, number, flags, rest)
 }
 
-// The fragment whose type has this number, after its flags.
+// The fragment whose type has the layout of the type with this number, after its flags.
 fn eat_fragment_of(
     alloc: Global,
     spot: Spot,

@@ -17,6 +17,7 @@ use crate::form::{Spot, eat_value_ref};
 use crate::form_error::FormError;
 use crate::fragment::{ASSIGNMENTS, LIST, ROWS, eat_fragment};
 use crate::items::NUMBER;
+use crate::kinds_in_place::layout_type;
 use crate::rows_in_place::RowsInPlace;
 use mysql_fragments::{Fragment, FragmentRef};
 use mysql_values::value::ValueRef;
@@ -70,7 +71,7 @@ pub(crate) fn eat_in_place<'f>(
             position: spot.position,
         });
     };
-    let number = *number;
+    let number = layout_type(*number);
     let flags = *flags;
     let mut ahead = ParseBuf(bytes);
     if number < NUMBER || number > ASSIGNMENTS {
@@ -98,7 +99,8 @@ fn kept_value(value: ValueRef<'_>) -> FragmentInPlace<'_>
     }
 }
 
-// The list or the rows of this type, if they have only values, and the rows one length.
+// The list or the rows of a type with this layout, if they have only values, and the rows one
+// length.
 fn eat_values_of<'f>(
     alloc: Global,
     spot: Spot,

@@ -20,7 +20,7 @@ use std::collections::HashMap;
 /// The fragments of a form, by position or by name, like its first parameter. The empty form has
 /// none, by position.
 ///
-/// The form is that of [`params_of_form`](crate::params_of_form), with eight types more. Their
+/// The form is that of [`params_of_form`](crate::params_of_form), with ten types more. Their
 /// flags are ignored. After the flags comes
 ///
 /// - for 128, an exact number, its text as a length-encoded string;
@@ -34,7 +34,9 @@ use std::collections::HashMap;
 ///   that a form may have becomes an empty keyword, which no call writes;
 /// - for 134, identifiers, their count in four bytes, and each with its names as for 132;
 /// - for 135, assignments, their count in four bytes, and each with the names of its column as for
-///   132, and an item as in a list.
+///   132, and an item as in a list;
+/// - for 136, an implicit list, what 129 has, and for 137, implicit rows, what 130 has. Here they
+///   are a list and rows. The calls that bind refuse them at some places.
 ///
 /// The parameters are read in order, up to the first that is refused, as `params_of_form` reads and
 /// refuses them. Nothing is allocated for a length or a count that the form only states. A fault of

@@ -11,7 +11,8 @@ use mysql_fragments::FragmentFault;
 pub enum FragmentsOutcome {
     /// An outcome that calls which bind values have too. Only
     /// [`bind_fragments_anywhere_into`](crate::bind_fragments_anywhere_into) returns `Unsteady` and
-    /// `Unportable`, also by wide names. No call that binds fragments returns `Backslash`.
+    /// `Unportable`, also by wide names and with guarded literals. No call that binds fragments
+    /// returns `Backslash`.
     AsValues(Outcome),
     /// The fragment for a place can't be written; the first such place is reported.
     Fault {
@@ -20,10 +21,18 @@ pub enum FragmentsOutcome {
         /// Its fault.
         fault: FragmentFault,
     },
+    /// A place may not have its list or rows, which the form doesn't say are such; the first such
+    /// place is reported.
+    Unbracketed {
+        /// The number of its place, from 0.
+        place: usize,
+        /// The index of its first byte in the query.
+        position: usize,
+    },
     /// The fragment for a place has a name with a backslash or a byte from 128 on; the first such
     /// place is reported. Only
     /// [`bind_fragments_anywhere_into`](crate::bind_fragments_anywhere_into) returns it, also by
-    /// wide names.
+    /// wide names and with guarded literals.
     UnsteadyFragment {
         /// The number of its place, from 0.
         place: usize,
@@ -31,8 +40,8 @@ pub enum FragmentsOutcome {
 }
 
 impl FragmentsOutcome {
-    /// The number of the outcome's kind: the number of an [`Outcome`], 17 for a fault, or 19 for a
-    /// fragment that isn't steady.
+    /// The number of the outcome's kind: the number of an [`Outcome`], 17 for a fault, 19 for a
+    /// fragment that isn't steady, or 21 for a place that may not have its list or rows.
     pub fn number(self) -> i32
         ensures number { result ≡ pos (number_of self) }
     {
@@ -40,13 +49,14 @@ impl FragmentsOutcome {
             FragmentsOutcome::AsValues(outcome) => outcome.number(),
             FragmentsOutcome::Fault { .. } => 17,
             FragmentsOutcome::UnsteadyFragment { .. } => 19,
+            FragmentsOutcome::Unbracketed { .. } => 21,
         }
     }
 
     /// The fields of the outcome. A fault has its place, its number as `byte`, its row as
     /// `position`, and its item or its part of a qualified identifier as `values`. The numbers are
     /// 1 for [`FragmentFault::Empty`], and then in the order of the declaration. A fragment that
-    /// isn't steady has its place.
+    /// isn't steady has its place, and a place that may not have its list or rows its position too.
     pub fn report(self) -> Report
         ensures fields { result ≡ report_of self }
     {
@@ -59,6 +69,14 @@ impl FragmentsOutcome {
                 marks: 0,
                 values: fault_item(fault),
                 byte: fault_number(fault),
+            },
+            FragmentsOutcome::Unbracketed { place, position } => Report {
+                len: 0,
+                place,
+                position,
+                marks: 0,
+                values: 0,
+                byte: 0,
             },
             FragmentsOutcome::UnsteadyFragment { place } => Report {
                 len: 0,

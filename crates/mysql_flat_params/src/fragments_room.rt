@@ -1,26 +1,28 @@
 //! The text that is bound to fragments, in a room of the caller.
-ghost use Rattle.std.specs.Prelude.{◌≡◌, ◌≤◌, ◌<◌, List, ℕ, [], Ok, IfErr, IfOk, IsErrOf, OnErr, length, take, drop, true};
+ghost use Rattle.std.specs.Prelude.{◌≡◌, ◌≤◌, ◌<◌, List, ℕ, [], IfErr, IfOk, IsErrOf, OnErr, length, take, drop};
 ghost use Rattle.std.specs.List.{Contains};
 ghost use Rattle.mysql_named_params.specs.Reading.{OnTokensIn};
 ghost use Rattle.mysql_named_params.specs.Places.{HasMark, HasName, names};
 ghost use Rattle.mysql_binding.specs.TextInRoom.{HasTextOf, IsTextInRoom};
-ghost use Rattle.mysql_fragments.specs.Expanded.{IsBoundFragments};
-ghost use Rattle.mysql_fragments.specs.FragmentErrors.{IsCauseOrMemory, first_cause};
 ghost use Rattle.mysql_fragments.specs.GivenFragments.{GivenFragments};
 ghost use Rattle.mysql_flat_params.specs.IntoRoom.{IfMixed, IfMixedIn, IsMissingNameIn};
-ghost use Rattle.mysql_flat_params.specs.FlatFragments.{IsFormReading};
-ghost use Rattle.mysql_flat_params.specs.FormInPlace.{IsGivenAs};
-ghost use Rattle.mysql_flat_params.specs.FragmentsIntoRoom.{IsBoundForm, IsBoundFormIn, IsFragmentsOutcome, IsFragmentsOutcomeIn};
+ghost use Rattle.mysql_flat_params.specs.FormCauses.{IsFormCauseOrMemory, first_form_cause};
+ghost use Rattle.mysql_flat_params.specs.FormKinds.{FormKinds, IsKnownForm};
+ghost use Rattle.mysql_flat_params.specs.KindsInPlace.{IsReadAs};
+ghost use Rattle.mysql_flat_params.specs.FragmentsIntoRoom.{IsBoundForm, IsBoundFormIn, IsBoundTo, IsFragmentsOutcome, IsFragmentsOutcomeIn};
+ghost use Rattle.mysql_flat_params.specs.declared.form_refusal.KeptError.TheVariants as kept_error;
 ghost use Rattle.mysql_flat_params.specs.FragmentsOutcomes.{HasNoAnswer, IfDone, IfTooLong, UnlessDone};
 
-use crate::fragments_in_place::{FormInPlace, form_in_place};
+use crate::form_refusal::KeptError;
+use crate::fragments_in_place::{ReadForm, form_in_place};
 use crate::fragments_outcome::FragmentsOutcome;
 use crate::into_room::{form_outcome, text_outcome};
 use crate::missing_place::name_place_read;
 use crate::outcome::Outcome;
 use crate::placed::placed_fragments;
+use crate::unbracketed::form_error;
 use mysql_binding::{KEPT_PLACES, NO_PLACE, PlainForm, SurveyedQuery, TextInRoom};
-use mysql_fragments::{FragmentsError, bind_placed_into, placed_error};
+use mysql_fragments::{FragmentsError, bind_placed_into};
 use mysql_named_params::places::Reading;
 use mysql_params_core::params::ParamsConfusionError;
 use std::alloc::{AllocError, Global};
@@ -35,6 +37,10 @@ use std::alloc::{AllocError, Global};
 /// the room would need. A form is refused before the query. Then the first of the causes of
 /// `bind_fragments_in` refuses the query. `Missing` reports the first place with the missing name.
 /// The empty form over a query with names and marks is `Mixed` without allocating.
+///
+/// After `NotAlone` and before `Float` comes `Unbracketed`, for a place that may not have its
+/// implicit list or rows ([`first_unbracketed`](mysql_fragments::brackets::first_unbracketed)). A
+/// form without them is bound without this walk.
 ///
 /// Any other outcome may be `OutOfMemory` instead, also if a form is refused for its first
 /// parameter: memory is allocated for the items before the refused one. `OutOfMemory` also comes if
@@ -87,41 +93,41 @@ pub fn bind_fragments_into_read(
     ensures too_long { IfTooLong result (λ len. length room.old < len) }
     ensures unchanged { UnlessDone result (room.new ≡ room.old) }
 {
-    let kept = match form_in_place(alloc, form) {
-        Ok(kept) => kept,
+    let read = match form_in_place(alloc, form) {
+        Ok(read) => read,
         Err(error) => return FragmentsOutcome::AsValues(form_outcome(error)),
     };
-    match bind_kept(alloc, query, &kept, reading, room) {
+    match bind_read(alloc, query, &read, reading, room) {
         Ok(text) => FragmentsOutcome::AsValues(text_outcome(text)),
-        Err(error) => fragments_outcome(query, error, reading),
+        Err(error) => kept_outcome(query, error, reading),
     }
 }
 
-// The query with the kept fragments of a form in its places, at the front of the room.
-fn bind_kept(
+// The query with the fragments of a form in its places, at the front of the room.
+fn bind_read(
     alloc: Global,
     query: &[u8],
-    kept: &FormInPlace<'_>,
+    read: &ReadForm<'_>,
     reading: Reading,
     room: &mut [u8],
-) -> Result<TextInRoom, FragmentsError>
-    requires { (given : GivenFragments) × IsGivenAs kept.now given }
-    ensures bound { (given : GivenFragments) → IsGivenAs kept.now given →
+) -> Result<TextInRoom, KeptError>
+    requires { (given : GivenFragments) × (kinds : FormKinds) × IsReadAs read.now given kinds }
+    ensures bound { (given : GivenFragments) (kinds : FormKinds) → IsReadAs read.now given kinds →
         OnTokensIn reading query.now (λ ts. IfOk result (IsTextInRoom
-        (IsBoundFragments reading.no_backslash_escape ts given)
-        (HasTextOf (IsBoundFragments reading.no_backslash_escape ts given)) room.old room.new)) }
-    ensures refused { (given : GivenFragments) → IsGivenAs kept.now given →
-        OnTokensIn reading query.now (λ ts. IfErr result
-        (IsCauseOrMemory (first_cause true ts given))) }
-    ensures mixed { OnTokensIn reading query.now (λ ts.
-        HasName ts × HasMark ts → IsErrOf result FragmentsError.Mixed) }
+        (IsBoundTo reading given kinds ts) (HasTextOf (IsBoundTo reading given kinds ts))
+        room.old room.new)) }
+    ensures refused { (given : GivenFragments) (kinds : FormKinds) →
+        IsReadAs read.now given kinds → OnTokensIn reading query.now (λ ts. IfErr result
+        (IsFormCauseOrMemory (first_form_cause kinds ts given))) }
+    ensures mixed { OnTokensIn reading query.now (λ ts. HasName ts × HasMark ts →
+        IsErrOf result (kept_error.Fragments FragmentsError.Mixed)) }
     ensures unchanged { OnErr result (room.new ≡ room.old) }
 {
     let mut first = [NO_PLACE; KEPT_PLACES];
     let surveyed = SurveyedQuery::new(query, reading, &mut first);
-    let placed = placed_fragments(alloc, &surveyed, kept)?;
+    let placed = placed_fragments(alloc, &surveyed, &read.kept)?;
     let placed = placed.as_slice();
-    if let Some(error) = placed_error(surveyed.survey, placed) {
+    if let Some(error) = form_error(alloc, &surveyed, &read.kinds, placed) {
         return Err(error);
     }
     let form = PlainForm {
@@ -129,21 +135,39 @@ fn bind_kept(
     };
     match bind_placed_into(&surveyed, placed, &form, room) {
         Some(text) => Ok(text),
-        None => Err(FragmentsError::Memory(AllocError)),
+        None => Err(KeptError::Fragments(FragmentsError::Memory(AllocError))),
     }
 }
 
 /// The outcome for an error of binding to this query.
-pub(crate) fn fragments_outcome(
-    query: &[u8],
-    error: FragmentsError,
-    reading: Reading,
-) -> FragmentsOutcome
-    requires { (given : GivenFragments) × OnTokensIn reading query.now (λ ts.
-        IsCauseOrMemory (first_cause true ts given) error) }
-    ensures outcome { (form : List ℕ) (given : GivenFragments) → IsFormReading form (Ok given) →
-        OnTokensIn reading query.now (λ ts.
-        IsCauseOrMemory (first_cause true ts given) error) →
+pub(crate) fn kept_outcome(query: &[u8], error: KeptError, reading: Reading) -> FragmentsOutcome
+    requires { (given : GivenFragments) × (kinds : FormKinds)
+        × OnTokensIn reading query.now (λ ts.
+        IsFormCauseOrMemory (first_form_cause kinds ts given) error) }
+    ensures outcome { (form : List ℕ) (given : GivenFragments) (kinds : FormKinds) →
+        IsKnownForm form given kinds → OnTokensIn reading query.now (λ ts.
+        IsFormCauseOrMemory (first_form_cause kinds ts given) error) →
+        IsFragmentsOutcomeIn reading query.now form result }
+    ensures mixed { error ≡ kept_error.Fragments FragmentsError.Mixed →
+        result ≡ FragmentsOutcome.AsValues Outcome.Mixed }
+    ensures no_answer { HasNoAnswer result }
+{
+    match error {
+        KeptError::Unbracketed { place, position } => {
+            FragmentsOutcome::Unbracketed { place, position }
+        }
+        KeptError::Fragments(error) => fragments_outcome(query, error, reading),
+    }
+}
+
+// The outcome for an error of the fragments.
+fn fragments_outcome(query: &[u8], error: FragmentsError, reading: Reading) -> FragmentsOutcome
+    requires { (given : GivenFragments) × (kinds : FormKinds)
+        × OnTokensIn reading query.now (λ ts.
+        IsFormCauseOrMemory (first_form_cause kinds ts given) (kept_error.Fragments error)) }
+    ensures outcome { (form : List ℕ) (given : GivenFragments) (kinds : FormKinds) →
+        IsKnownForm form given kinds → OnTokensIn reading query.now (λ ts.
+        IsFormCauseOrMemory (first_form_cause kinds ts given) (kept_error.Fragments error)) →
         IsFragmentsOutcomeIn reading query.now form result }
     ensures mixed { error ≡ FragmentsError.Mixed →
         result ≡ FragmentsOutcome.AsValues Outcome.Mixed }

@@ -14,6 +14,7 @@ ghost use Rattle.mysql_flat_params.specs.FlatForm.{HasFirstParameter, IsFormRead
 ghost use Rattle.mysql_flat_params.specs.FormErrors.{IsFormRefusal};
 ghost use Rattle.mysql_flat_params.specs.FormParams.{given_in_place, pairs_in_place};
 ghost use Rattle.mysql_flat_params.specs.FragmentsAnywhereIntoRoom.{IsAnywhereAsValuesIn};
+ghost use Rattle.mysql_flat_params.specs.declared.fragments_anywhere_room.AnywhereCall as anywhere_call;
 ghost use Rattle.mysql_flat_params.specs.FragmentsFormErrors as fragments;
 ghost use Rattle.mysql_flat_params.specs.FragmentsIntoRoom.{IsOutcomeAsValuesIn};
 ghost use Rattle.mysql_flat_params.specs.IntoRoom.{IfMixed, IfMixedIn, IsBindOutcome, IsBindOutcomeIn, IsBoundForm, IsBoundFormIn, IsMissingNameIn, MissesOtherNameIn};
@@ -186,8 +187,8 @@ pub(crate) fn form_outcome(error: FormError) -> Outcome
         (refusal_as wide_names which query) query form result }
     ensures fragments { (reading : Reading) (query form : List ℕ) →
         fragments.IsFormRefusal form error → IsOutcomeAsValuesIn reading query form result }
-    ensures fragments_anywhere { (wide_names : Bool) (query form : List ℕ) →
-        fragments.IsFormRefusal form error → IsAnywhereAsValuesIn wide_names query form result }
+    ensures fragments_anywhere { (call : anywhere_call.AnywhereCall) (query form : List ℕ) →
+        fragments.IsFormRefusal form error → IsAnywhereAsValuesIn call query form result }
     ensures memory { result ≡ Outcome.OutOfMemory → error ≡ FormError.Memory alloc_error }
     ensures no_answer { HasNoAnswer result }
 {

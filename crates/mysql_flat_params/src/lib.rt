@@ -13,8 +13,9 @@
 //! another way.
 //!
 //! [`form_fragments`] reads the form of fragments: lists, rows, exact numbers, doubles, identifiers
-//! and keywords. [`bind_fragments_into`] and [`bind_fragments_anywhere_into`] bind its fragments. A
-//! [`FragmentsOutcome`] has the cause if they refuse.
+//! and keywords. [`bind_fragments_into`], [`bind_fragments_anywhere_into`] and
+//! [`bind_wide_fragments_guarded_into`] bind its fragments. A [`FragmentsOutcome`] has the cause if
+//! they refuse.
 //!
 //! A function whose name ends in `_read` does the same as the one without `_read`, for a query in
 //! any [`Reading`]. So it can also read the wide names of
@@ -30,17 +31,20 @@ mod few_values;
 mod form;
 mod form_error;
 mod form_names;
+mod form_refusal;
 mod fragment;
 mod fragment_in_place;
 mod fragment_parts;
 mod fragments_anywhere_room;
 mod fragments_form;
+mod fragments_guarded_room;
 mod fragments_in_place;
 mod fragments_outcome;
 mod fragments_room;
 mod into_room;
 mod items;
 mod keywords;
+mod kinds_in_place;
 pub mod laws;
 mod missing_place;
 mod names_room;
@@ -51,6 +55,7 @@ mod row_names;
 mod rows;
 mod rows_in_place;
 mod steady_room;
+mod unbracketed;
 mod unportable;
 
 pub use anywhere_table::{
@@ -63,6 +68,7 @@ pub use fragments_anywhere_room::{
     bind_fragments_anywhere_into, bind_wide_fragments_anywhere_into,
 };
 pub use fragments_form::form_fragments;
+pub use fragments_guarded_room::bind_wide_fragments_guarded_into;
 pub use fragments_outcome::FragmentsOutcome;
 pub use fragments_room::{bind_fragments_into, bind_fragments_into_read};
 pub use into_room::{bind_into, bind_into_read};

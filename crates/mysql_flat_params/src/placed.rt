@@ -6,7 +6,7 @@ ghost use Rattle.mysql_fragments.specs.BorrowedFragments.{AreSaid};
 ghost use Rattle.mysql_fragments.specs.FragmentErrors.{IsCauseOrMemory, IsMissingOrMemory, IsPlaceRefusal, first_cause, mixed_cause};
 ghost use Rattle.mysql_fragments.specs.GivenFragments.{FragmentMap, GivenFragments, fragments_at, fragments_for};
 ghost use Rattle.mysql_fragments.specs.declared.fragment.Fragment as said_fragment;
-ghost use Rattle.mysql_flat_params.specs.FormInPlace.{AreKeptAs, IsGivenAs, IsMapKeptAs};
+ghost use Rattle.mysql_flat_params.specs.FormInPlace.{AreKeptAs, IsEarly, IsGivenAs, IsMapKeptAs};
 
 use crate::fragment_in_place::FragmentInPlace;
 use crate::fragments_in_place::FormInPlace;
@@ -29,6 +29,7 @@ pub(crate) fn placed_fragments<'p>(
     ensures refused { (given : GivenFragments) → IsGivenAs kept.now given →
         OnSurveyed surveyed.now (λ ts. IfErr result
         (IsCauseOrMemory (first_cause true ts given))) }
+    ensures early { IfErr result IsEarly }
     ensures mixed { OnSurveyed surveyed.now (λ ts. HasName ts × HasMark ts →
         IsErrOf result FragmentsError.Mixed) }
 {
@@ -85,6 +86,7 @@ fn named_fragments<'p>(
     ensures refused { (fragments : FragmentMap) → IsMapKeptAs entries.now.entries fragments →
         OnSurveyed surveyed.now (λ ts. IfErr result
         (IsPlaceRefusal (fragments_at fragments (names ts)))) }
+    ensures early { IfErr result IsEarly }
 {
     let count = surveyed.survey.names;
     let mut list = Vec::with_capacity(alloc, count)?;

@@ -125,11 +125,11 @@ const REFUSED: &[(&[u8], &[u8], FragmentsOutcome)] = &[
     ),
     (
         b"?",
-        b"\0\x88\0",
+        b"\0\x8a\0",
         FragmentsOutcome::AsValues(Outcome::FormType {
             place: 0,
             position: 0,
-            number: 0x88,
+            number: 0x8a,
         }),
     ),
     // A count of two columns and one of them, and an assignment without its item.

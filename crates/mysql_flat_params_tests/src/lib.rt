@@ -16,9 +16,13 @@ mod fragments_anywhere;
 #[cfg(test)]
 mod fragments_bound;
 #[cfg(test)]
+mod fragments_guarded;
+#[cfg(test)]
 mod fragments_shared;
 #[cfg(test)]
 mod hostile;
+#[cfg(test)]
+mod implicit_lists;
 #[cfg(test)]
 mod lent;
 #[cfg(test)]

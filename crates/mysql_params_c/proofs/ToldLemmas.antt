@@ -5,7 +5,7 @@ use Rattle.mysql_flat_params.specs.declared.outcome.Outcome.{Outcome}
 use Rattle.mysql_flat_params.specs.declared.outcome.Outcome.TheVariants.{Done, OutOfMemory, Room, FormEnd, FormLengthLead, FormType, FormMixed, FormRepeated, Mixed, Missing, NamedForPositional, PositionalForNamed, MarkCount, NotAlone, Float, Unsteady, Unportable, Backslash}
 use Rattle.mysql_flat_params.specs.FragmentsOutcomes as fragments
 use Rattle.mysql_flat_params.specs.declared.fragments_outcome.FragmentsOutcome.{FragmentsOutcome}
-use Rattle.mysql_flat_params.specs.declared.fragments_outcome.FragmentsOutcome.TheVariants.{AsValues, Fault, UnsteadyFragment}
+use Rattle.mysql_flat_params.specs.declared.fragments_outcome.FragmentsOutcome.TheVariants.{AsValues, Fault, Unbracketed, UnsteadyFragment}
 use Rattle.mysql_flat_params.specs.PlaceTable as table
 use Rattle.mysql_flat_params.specs.declared.place_table.TableOutcome.{TableOutcome}
 use Rattle.mysql_flat_params.specs.declared.place_table.TableOutcome.TheVariants.{AsQuery, OtherTable}
@@ -42,6 +42,7 @@ pub fragments_written_told : (outcome : FragmentsOutcome) (P : ℕ → Type 0) �
     to_z w32 (of_z w32 (pos (fragments.number_of outcome))) ≡ pos 0 → fragments.IfDone outcome P → P (fragments.report_of outcome).len
 fragments_written_told (AsValues outcome) P zero done = written_told outcome P zero done
 fragments_written_told (Fault place fault) P zero done = cc
+fragments_written_told (Unbracketed place position) P zero done = cc
 fragments_written_told (UnsteadyFragment place) P zero done = cc
 
 -- .. and of one of binding by a table

@@ -321,16 +321,17 @@ pub extern "C" fn mysql_params_bind_template(
 /// Binds the form's fragments to the query, and writes the text to the front of the room:
 /// [`bind_fragments_into`](mysql_flat_params::bind_fragments_into).
 ///
-/// The form is that of [`mysql_params_bind`] with eight types more, for an exact number, a list,
-/// rows, an identifier, a qualified one, a keyword, identifiers and assignments
-/// ([`form_fragments`](mysql_flat_params::form_fragments)).
+/// The form is that of [`mysql_params_bind`] with ten types more, for an exact number, a list,
+/// rows, an identifier, a qualified one, a keyword, identifiers, assignments, an implicit list and
+/// implicit rows ([`form_fragments`](mysql_flat_params::form_fragments)).
 ///
 /// It returns the numbers of [`mysql_params_bind`], and after those for a query 17 (`Fault`) for a
 /// fragment that can't be written. The report then has the fragment's place, the number of the
-/// fault in `byte`, the row in `position`, and the item or the part of the name in `values`. Any
-/// other number may be 1 (`OutOfMemory`) instead, except 8 (`Mixed`) with the empty form. At each
-/// number except 0 the room is as before. The flag is true if the connection's `sql_mode` has
-/// `NO_BACKSLASH_ESCAPES`.
+/// fault in `byte`, the row in `position`, and the item or the part of the name in `values`.
+/// Between 13 (`NotAlone`) and 14 (`Float`) comes 21 (`Unbracketed`), with place and position: a
+/// place may not have its implicit list or rows. Any other number may be 1 (`OutOfMemory`) instead,
+/// except 8 (`Mixed`) with the empty form. At each number except 0 the room is as before. The flag
+/// is true if the connection's `sql_mode` has `NO_BACKSLASH_ESCAPES`.
 #[unsafe(no_mangle)]
 pub extern "C" fn mysql_params_bind_fragments(
     alloc: Global,

@@ -26,8 +26,9 @@ use mysql_flat_params::{
     AnywhereTemplate, PlaceSpan, ReadTemplate, Reading, Report, Rows, TableHead,
     bind_by_table_into_read, bind_fragments_into_read, bind_into_read, bind_rows_into_read,
     bind_wide_anywhere_by_table_into, bind_wide_anywhere_into, bind_wide_fragments_anywhere_into,
-    bind_wide_in_both_modes_into, names_into_read, report_first_unportable_in_client_wide,
-    report_first_unportable_wide, table_into_read, wide_anywhere_table_into,
+    bind_wide_fragments_guarded_into, bind_wide_in_both_modes_into, names_into_read,
+    report_first_unportable_in_client_wide, report_first_unportable_wide, table_into_read,
+    wide_anywhere_table_into,
 };
 use std::alloc::Global;
 
@@ -441,6 +442,34 @@ pub extern "C" fn mysql_params_bind_fragments_anywhere_wide(
     ensures unchanged { result ≢ pos 0 → room.new ≡ room.old }
 {
     let outcome = bind_wide_fragments_anywhere_into(alloc, query, form, room);
+    *report = outcome.report();
+    outcome.number()
+}
+
+/// [`mysql_params_bind_fragments_anywhere_wide`] with guarded literals for a mode:
+/// [`bind_wide_fragments_guarded_into`](mysql_flat_params::bind_wide_fragments_guarded_into).
+///
+/// Numbers, report and room are the same.
+#[unsafe(no_mangle)]
+pub extern "C" fn mysql_params_bind_fragments_guarded_wide(
+    alloc: Global,
+    query: &[u8],
+    form: &[u8],
+    no_backslash_escape: bool,
+    room: &mut [u8],
+    report: &mut Report,
+) -> i32
+    ensures outcome { fragments_outcomes.IsTold result report.new
+        (anywhere_fragments.IsWideGuardedOutcome no_backslash_escape query.now form.now) }
+    ensures written { result ≡ pos 0 →
+        anywhere_fragments.IsWideGuardedForm no_backslash_escape query.now form.now
+        (take report.new.len room.new) }
+    ensures rest { result ≡ pos 0 → (report.new.len ≤ length room.old)
+        × (drop report.new.len room.new ≡ drop report.new.len room.old) }
+    ensures too_long { result ≡ pos 2 → length room.old < report.new.len }
+    ensures unchanged { result ≢ pos 0 → room.new ≡ room.old }
+{
+    let outcome = bind_wide_fragments_guarded_into(alloc, query, form, no_backslash_escape, room);
     *report = outcome.report();
     outcome.number()
 }

@@ -8,7 +8,7 @@ use crate::outcome::Memory::{Asked, Never};
 use crate::outcome::{Case, Memory, Outcome, cases, judged, row};
 use mysql_flat_params::{
     FragmentsOutcome, Outcome as Told, bind_fragments_anywhere_into, bind_fragments_into,
-    form_fragments,
+    bind_wide_fragments_guarded_into, form_fragments,
 };
 use mysql_fragments::FragmentFault;
 use std::alloc::Global;
@@ -20,6 +20,9 @@ pub(crate) fn case(alloc: Global, name: &str) -> Option<Case> {
     }
     if let Some(row) = row(ANYWHERE, name) {
         return Some(Ok(bound_anywhere(alloc, row)));
+    }
+    if let Some((row, no_backslash_escape)) = row(GUARDED, name) {
+        return Some(Ok(bound_guarded(alloc, row, no_backslash_escape)));
     }
     let (form, wanted, memory) = row(FORMS, name)?;
     Some(Ok(judged(form_fragments(alloc, form), wanted).with(memory)))
@@ -38,6 +41,12 @@ const NAME_ALONE: &[u8] = b"\x01t\x83\0\x01t";
 
 /// The columns `a` and `t`.`b`, by position.
 const COLUMNS: &[u8] = b"\0\x86\0\x02\0\0\0\x01\0\0\0\x01a\x02\0\0\0\x01t\x01b";
+
+/// An implicit list of 7, by position.
+const IMPLICIT: &[u8] = b"\0\x88\0\x01\0\0\0\x01\0\x07";
+
+/// An implicit list of 7 for `t`.
+const IMPLICIT_BY_NAME: &[u8] = b"\x01t\x88\0\x01\0\0\0\x01\0\x07";
 
 /// `a` set to 1, and `t`.`b` to -1.50, by position.
 const CHANGES: &[u8] = b"\0\x87\0\x02\0\0\0\x01\0\0\0\x01a\x01\0\x01\
@@ -94,6 +103,11 @@ const EMPTY: FragmentsOutcome = FragmentsOutcome::Fault {
     fault: FragmentFault::Empty,
 };
 
+const UNBRACKETED: FragmentsOutcome = FragmentsOutcome::Unbracketed {
+    place: 0,
+    position: 2,
+};
+
 const UNPORTABLE: FragmentsOutcome = FragmentsOutcome::AsValues(Told::Unportable {
     number: 6,
     position: 0,
@@ -123,10 +137,10 @@ const BOUND: &[(&str, (BoundRow, bool))] = cases! {
     "bind_fragments_into of a list that is cut" =>
         (b"?", b"\0\x81\0\x02\0\0\0\x06\0", Err(CUT), Asked), false;
     "bind_fragments_into of a form with an unknown type" =>
-        (b"?", b"\0\x88\0", Err(FragmentsOutcome::AsValues(Told::FormType {
+        (b"?", b"\0\x8A\0", Err(FragmentsOutcome::AsValues(Told::FormType {
             place: 0,
             position: 0,
-            number: 0x88,
+            number: 0x8A,
         })), Never), false;
     "bind_fragments_into of names and marks" =>
         (b":t ?", NAME_ALONE, Err(FragmentsOutcome::AsValues(Told::Mixed)), Asked), false;
@@ -144,6 +158,12 @@ const BOUND: &[(&str, (BoundRow, bool))] = cases! {
         })), Asked), false;
     "bind_fragments_into of an empty list" =>
         (b"(?)", b"\0\x81\0\0\0\0\0", Err(EMPTY), Asked), false;
+    "bind_fragments_into of an implicit list" =>
+        (b"IN (?)", IMPLICIT, Ok(b"IN (7)"), Asked), false;
+    "bind_fragments_into of an implicit list by name" =>
+        (b"IN (:t)", IMPLICIT_BY_NAME, Ok(b"IN (7)"), Asked), false;
+    "bind_fragments_into of an implicit list without brackets" =>
+        (b"f(:t)", IMPLICIT_BY_NAME, Err(UNBRACKETED), Asked), false;
 };
 
 const ANYWHERE: &[(&str, BoundRow)] = cases! {
@@ -159,6 +179,30 @@ const ANYWHERE: &[(&str, BoundRow)] = cases! {
     "bind_fragments_anywhere_into of a name that is not steady" =>
         b"?, ?", b"\0\x06\0\0\x83\0\x02\xC3\xA9",
         Err(FragmentsOutcome::UnsteadyFragment { place: 1 }), Asked;
+    "bind_fragments_anywhere_into of an implicit list without brackets" =>
+        b"f(:t)", IMPLICIT_BY_NAME, Err(UNBRACKETED), Asked;
+};
+
+/// The same, and the mode. A query with a capital in a name is copied.
+const GUARDED: &[(&str, (BoundRow, bool))] = cases! {
+    "bind_wide_fragments_guarded_into of a text and a name" =>
+        (b"? = ?", b"\0\x83\0\x01t\0\xFC\0\x05it's\\", Ok(b"`t` = 'it''s\\\\'"), Asked),
+        false;
+    "bind_wide_fragments_guarded_into of a name with a capital" =>
+        (b"/*! */ :Ab", b"\x02Ab\xFC\0\x01\\", Ok(b"/*! */ _utf8mb4 0x5C"), Asked), true;
+    "bind_wide_fragments_guarded_into of a room that is too short" =>
+        (b"? /* a comment that is longer */, ?", b"\0\x83\0\x01t\0\x06\0",
+        Err(TOO_SHORT), Asked), false;
+    "bind_wide_fragments_guarded_into of an unsteady query" =>
+        (b"\\:t", NAME_ALONE, Err(FragmentsOutcome::AsValues(Told::Unsteady { position: 0 })),
+        Asked), false;
+    "bind_wide_fragments_guarded_into of a query that is not portable" =>
+        (b"[:T", NAME_ALONE, Err(UNPORTABLE), Asked), false;
+    "bind_wide_fragments_guarded_into of a missing name" =>
+        (b":B", NAME_ALONE, Err(MISSING), Asked), false;
+    "bind_wide_fragments_guarded_into of a name that is not steady" =>
+        (b"?, ?", b"\0\x06\0\0\x83\0\x02\xC3\xA9",
+        Err(FragmentsOutcome::UnsteadyFragment { place: 1 }), Asked), false;
 };
 
 /// A caller's room, before a call.
@@ -177,6 +221,16 @@ fn bound(
 fn bound_anywhere(alloc: Global, (query, form, wanted, memory): BoundRow) -> Outcome {
     let mut room = *ROOM;
     let told = bind_fragments_anywhere_into(alloc, query, form, &mut room);
+    written(told, &room, wanted).with(memory)
+}
+
+fn bound_guarded(
+    alloc: Global,
+    (query, form, wanted, memory): BoundRow,
+    no_backslash_escape: bool,
+) -> Outcome {
+    let mut room = *ROOM;
+    let told = bind_wide_fragments_guarded_into(alloc, query, form, no_backslash_escape, &mut room);
     written(told, &room, wanted).with(memory)
 }
 

@@ -1,12 +1,12 @@
-//! Queries bound to steady text.
+//! Queries bound to steady text and to guarded text.
 use crate::inputs::Given::{Empty, Named, Positional};
 use crate::inputs::Plain::{Bytes, Float, Int, Null};
 use crate::inputs::{A_TO_Q, Given};
 use crate::outcome::Memory::{Asked, Never};
 use crate::outcome::{Case, Memory, Outcome, cases, judged, row};
 use mysql_params::{
-    BindError, BothModesError, SteadyTextError, bind_text_anywhere, bind_text_in_any_mode,
-    bind_text_in_both_modes,
+    BindError, BothModesError, SteadyTextError, bind_text_anywhere, bind_text_guarded,
+    bind_text_in_any_mode, bind_text_in_both_modes,
 };
 use std::alloc::Global;
 
@@ -17,6 +17,9 @@ pub(crate) fn case(alloc: Global, name: &str) -> Option<Case> {
     }
     if let Some(row) = row(IN_ANY_MODE, name) {
         return Some(bound_in_any_mode(alloc, row));
+    }
+    if let Some(row) = row(GUARDED, name) {
+        return Some(bound_guarded(alloc, row));
     }
     Some(bound_in_both_modes(alloc, row(IN_BOTH_MODES, name)?))
 }
@@ -66,6 +69,19 @@ const IN_ANY_MODE: &[(&str, Row)] = cases! {
         b"?", Positional(&[Float(0)]), Err("Float { place: 0 }"), Asked;
 };
 
+const GUARDED: &[(&str, Row)] = cases! {
+    "bind_text_guarded of texts and NULL" =>
+        b"SELECT ?, ?, ?", Positional(&[Bytes(b"it's"), Bytes(b"\xC3\xA9\\"), Null]),
+        Ok(b"SELECT 'it''s', '\xC3\xA9' '\\\\', NULL"), Asked;
+    "bind_text_guarded of an unsteady query" =>
+        b"x\\:a", NAMED_TEXT, Err("Unsteady { at: 1 }"), Never;
+    "bind_text_guarded of names and marks" => b":a ?", Empty, Err("Mixed"), Never;
+    "bind_text_guarded of a missing name" =>
+        b"(:a)", Empty, Err("Params(Missing(MissingNamedParameterError([97])))"), Asked;
+    "bind_text_guarded of a float" =>
+        b"?", Positional(&[Float(0)]), Err("Float { place: 0 }"), Asked;
+};
+
 const IN_BOTH_MODES: &[(&str, Row)] = cases! {
     "bind_text_in_both_modes of texts and NULL" =>
         b"SELECT '\xC3\xBC', ?, ?, ?", Positional(&[Bytes(b"it's"), Bytes(b"\xC3\xA9"), Null]),
@@ -92,6 +108,12 @@ fn bound_anywhere(alloc: Global, (query, given, wanted, memory): Row) -> Case {
 fn bound_in_any_mode(alloc: Global, (query, given, wanted, memory): Row) -> Case {
     let params = given.params(alloc)?;
     let answer = bind_text_in_any_mode(alloc, query, params);
+    Ok(judged_steady(answer, wanted).with(memory))
+}
+
+fn bound_guarded(alloc: Global, (query, given, wanted, memory): Row) -> Case {
+    let params = given.params(alloc)?;
+    let answer = bind_text_guarded(alloc, query, params, false);
     Ok(judged_steady(answer, wanted).with(memory))
 }
 

@@ -9,7 +9,9 @@ use crate::outcome::Memory::{Asked, Never};
 use crate::outcome::{Case, Memory, cases, row};
 use crate::pair_cases::{Wanted, judged_modes, judged_text};
 use crate::steady_fragment_cases::judged_fragments;
-use mysql_fragments::{bind_wide_fragments_anywhere, bind_wide_fragments_in_any_mode};
+use mysql_fragments::{
+    bind_wide_fragments_anywhere, bind_wide_fragments_guarded, bind_wide_fragments_in_any_mode,
+};
 use mysql_params::{bind_wide_anywhere, bind_wide_in_any_mode, bind_wide_in_both_modes};
 use std::alloc::Global;
 
@@ -17,6 +19,9 @@ use std::alloc::Global;
 pub(crate) fn case(alloc: Global, name: &str) -> Option<Case> {
     if let Some(row) = row(BOUND, name) {
         return Some(bound(alloc, row));
+    }
+    if let Some(row) = row(GUARDED_FRAGMENTS, name) {
+        return Some(guarded_fragments_bound(alloc, row));
     }
     Some(fragments_bound(alloc, row(FRAGMENTS, name)?))
 }
@@ -166,5 +171,27 @@ fn fragments_bound(
     } else {
         bind_wide_fragments_in_any_mode(alloc, query, &fragments)
     };
+    Ok(judged_fragments(answer, wanted).with(memory))
+}
+
+/// A query, fragments, the text or the refusal, and whether the call asks for memory.
+type GuardedRow = (&'static [u8], InPlaces, Wanted, Memory);
+
+const GUARDED_FRAGMENTS: &[(&str, GuardedRow)] = cases! {
+    "bind_wide_fragments_guarded of a name and a list" =>
+        b":ids IN (:Ids)", NAME_AND_LIST, Ok(b"`n` IN (2.5, 'it''s')"), Asked;
+    "bind_wide_fragments_guarded of an unsteady query" =>
+        b"x\\:Ids", NAME_AND_LIST, Err("Unsteady { at: 1 }"), Never;
+    "bind_wide_fragments_guarded of a query that is not portable" =>
+        b"[ :Ids", NAME_AND_LIST, Err(BRACKET), Asked;
+    "bind_wide_fragments_guarded of names and marks" =>
+        b":Ids ?", NAME_AND_LIST, Err("Mixed"), Asked;
+    "bind_wide_fragments_guarded of a missing name" =>
+        b":A", NAME_AND_LIST, Err("Missing(MissingNamedParameterError([65]))"), Asked;
+};
+
+fn guarded_fragments_bound(alloc: Global, (query, given, wanted, memory): GuardedRow) -> Case {
+    let fragments = given.fragments(alloc)?;
+    let answer = bind_wide_fragments_guarded(alloc, query, &fragments, false);
     Ok(judged_fragments(answer, wanted).with(memory))
 }

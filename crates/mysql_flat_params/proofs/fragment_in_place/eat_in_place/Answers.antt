@@ -15,7 +15,7 @@ returns-in_err-value-clause-refused c =
     handed_on (λ error. IsExpectedRefusal (read_fragment c.args.spot.place c.args.spot.position c.args.rest.now.0.now) ⊤ (form_refusal error))
     c.from_residual.result c.in_err-value.field-0.0 c.from_residual.ensures.1
     (subst (λ expected. IsExpectedRefusal expected ⊤ (form_refusal c.in_err-value.field-0.0))
-    (sym (fragment_typed c.args.spot.place c.args.spot.position c.args.rest.now.0.now c.in-len2-up.len_at_least))
+    (sym (fragment_typed c.args.spot.place c.args.spot.position c.args.rest.now.0.now _ c.layout_type-number.ensures c.in-len2-up.len_at_least))
     (value_refused c.args.spot.place c.args.spot.position _ _ _ _
     (elim c.then-number-lt-NUMBER.branch [ then-number-lt-NUMBER-via-then-number-lt-NUMBER w ↦ inl w.if-number-lt-NUMBER.true | then-number-lt-NUMBER-via-else-number-lt-NUMBER+then-number-gt-ASSIGNMENTS w ↦ inr w.if-number-gt-ASSIGNMENTS.true ])
     c.in_err-value.ensures))
@@ -33,5 +33,5 @@ returns-in_err-eat_fragment-in-None-clause-refused c =
 
 pub returns-in-Some-clause-read : goal.returns-in-Some-clause-read
 returns-in-Some-clause-read c =
-    kept_read c.args.spot.place c.args.spot.position c.args.rest.now.0.now _ c.in_ok-read.field-0 c.in-Some.read c.in-len2-up.len_at_least c.in-Some.is
+    kept_read c.args.spot.place c.args.spot.position c.args.rest.now.0.now _ _ c.layout_type-number.ensures c.in_ok-read.field-0 c.in-Some.read c.in-len2-up.len_at_least c.in-Some.is
     c.in_ok-read.ensures

@@ -64,3 +64,9 @@ named_fragments-requires c =
     let o = unmixed_on true _ _ (positional []) c.survey-survey.result c.survey-survey.ensures.survey
     (λ both. elim c.else-survey-gt0.branch [ else-survey-gt0-via-then-survey-gt0+else-survey-gt0-2 w ↦ omega (arith, both.1, w.if-survey-gt0-2.false) | else-survey-gt0-via-else-survey-gt0 w ↦ omega (arith, both.0, w.if-survey-gt0.false) ]) in
     record { unmixed = (o.0, o.1, o.2.1) }
+
+pub returns-then-survey-gt0-3-clause-early : goal.returns-then-survey-gt0-3-clause-early
+returns-then-survey-gt0-3-clause-early c = inr (refused_fragments (confused PositionalParamsForNamedQuery), refl, refl)
+
+pub returns-then-survey-eq0-clause-early : goal.returns-then-survey-eq0-clause-early
+returns-then-survey-eq0-clause-early c = inr (refused_fragments (confused NamedParamsForPositionalQuery), refl, refl)
