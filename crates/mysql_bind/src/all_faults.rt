@@ -1,23 +1,58 @@
 //! All faults of a query that have the kind for which the query is refused.
-use crate::complaint::{Complaint, Fault, add_fault};
+use crate::complaint::{Complaint, Fault, Place, add_fault};
 use crate::construct_texts::{ConstructTexts, is_taken_after};
 use crate::query_file::{
-    JOINED, MARK, PlacesInOrder, QueryFile, UNSTEADY, complaint_of, marks_of, places_of,
+    JOINED, MARK, PlacesInOrder, QueryFile, UNSTEADY, complaint_of, place_behind,
 };
 use crate::rewritten::in_single_quotes;
 use crate::values::Values;
 use mysql_bind_core::{Failure, Request, TakenQuery};
-use mysql_binding::SurveyedQuery;
+use mysql_binding::{SurveyedQuery, WideQuery};
 use mysql_named_params::lowered::lowered_query;
-use mysql_named_params::places::Reading;
+use mysql_named_params::places::{PlaceKind, Reading};
 use mysql_named_params::tokens::first_token;
 use mysql_portable::client::first_unportable_in_client;
 use mysql_portable::portable::{Construct, Unportable};
 use mysql_portable::steady::first_unsteady;
 use std::alloc::{AllocError, Global};
 
-/// Adds the faults of a query that is refused for this reason: all unsteady bytes, all constructs,
-/// or all marks. For any other reason it adds only the faults of that refusal.
+// How many faults of a query are told.
+const MOST_TOLD: usize = 1000;
+
+// How many faults of a query are found. The first are told.
+#[derive(Clone, Copy)]
+struct FaultCount(usize);
+
+impl FaultCount {
+    // Counts one more, and returns whether it is told.
+    fn tells_next(&mut self) -> bool {
+        self.0 = self.0.saturating_add(1);
+        self.0 <= MOST_TOLD
+    }
+}
+
+// Adds a fault that says how many faults of the query aren't told, if there are any.
+fn add_untold(
+    faults: &mut Vec<Fault>,
+    alloc: Global,
+    query: &QueryFile<'_>,
+    count: FaultCount,
+) -> Result<(), AllocError> {
+    let untold = count.0.saturating_sub(MOST_TOLD);
+    if untold == 0 {
+        return Ok(());
+    }
+    let path = String::from_str(alloc, query.path)?;
+    let what = format!(in alloc;
+        "only the first {} are told: {untold} more of this kind",
+        MOST_TOLD
+    )?;
+    add_fault(faults, Place::File(path), what)
+}
+
+/// Adds the faults of a query that is refused for this reason: the unsteady bytes, the constructs,
+/// or the marks, of each the first 1000 and how many more there are. For any other reason it adds
+/// only the faults of that refusal.
 pub fn add_all_faults(
     faults: &mut Vec<Fault>,
     alloc: Global,
@@ -42,8 +77,9 @@ pub fn add_all_faults(
     }
 }
 
-/// Adds a fault for each name of a taken query that joins the text beside it. If a name directly
-/// follows another one, only that other one has a fault for it.
+/// Adds a fault for each of the first 1000 names of a taken query that join the text beside them,
+/// and how many more there are. If a name directly follows another one, only that other one has a
+/// fault for it.
 pub fn add_joined(
     faults: &mut Vec<Fault>,
     alloc: Global,
@@ -57,15 +93,17 @@ pub fn add_joined(
     }
     let text = parsed.query();
     let mut in_order = PlacesInOrder::new(query);
+    let mut count = FaultCount(0);
     let mut before = 0usize;
-    for place in places_of(alloc, parsed)? {
+    for found in parsed.surveyed().known {
+        let place = place_behind(before, found);
         let end = place.end.saturating_add(1).min(text.len());
-        if is_joined(text.get(before..end).unwrap_or(b""), mode) {
+        if is_joined(text.get(before..end).unwrap_or(b""), mode) && count.tells_next() {
             add_at(faults, alloc, &mut in_order, place.at, JOINED)?;
         }
         before = place.end;
     }
-    Ok(())
+    add_untold(faults, alloc, query, count)
 }
 
 // Whether the first name of a text, behind which at most one byte stands, doesn't stand alone.
@@ -101,7 +139,7 @@ fn unsteady_len(text: &[u8]) -> usize {
     }
 }
 
-// Adds a fault for each run of bytes that aren't steady.
+// Adds the faults of the runs of bytes that aren't steady.
 fn add_unsteady(
     faults: &mut Vec<Fault>,
     alloc: Global,
@@ -109,6 +147,7 @@ fn add_unsteady(
 ) -> Result<(), AllocError> {
     let text = query.bytes.as_slice();
     let mut places = PlacesInOrder::new(query);
+    let mut count = FaultCount(0);
     let mut rest = text;
     // Each run has a byte.
     for _ in 0..text.len() {
@@ -117,25 +156,34 @@ fn add_unsteady(
         };
         let before = before.min(rest.len());
         let at = text.len().saturating_sub(rest.len()).saturating_add(before);
-        add_at(faults, alloc, &mut places, at, UNSTEADY)?;
+        if count.tells_next() {
+            add_at(faults, alloc, &mut places, at, UNSTEADY)?;
+        }
         let run = &rest[before..];
         rest = &run[unsteady_len(run).min(run.len())..];
     }
-    Ok(())
+    add_untold(faults, alloc, query, count)
 }
 
-// Adds a fault for each mark.
+// Adds the faults of the marks.
 fn add_marks(
     faults: &mut Vec<Fault>,
     alloc: Global,
     query: &QueryFile<'_>,
     mode: bool,
 ) -> Result<(), AllocError> {
+    let parsed = WideQuery::parse_in(alloc, query.bytes.as_slice(), mode)?;
     let mut places = PlacesInOrder::new(query);
-    for at in marks_of(alloc, query.bytes.as_slice(), mode)? {
-        add_at(faults, alloc, &mut places, at, MARK)?;
+    let mut count = FaultCount(0);
+    let mut end = 0usize;
+    for found in parsed.surveyed().known {
+        let place = place_behind(end, found);
+        if place.kind == PlaceKind::Mark && count.tells_next() {
+            add_at(faults, alloc, &mut places, place.at, MARK)?;
+        }
+        end = place.end;
     }
-    Ok(())
+    add_untold(faults, alloc, query, count)
 }
 
 // What is said of the next construct. Of a text in `"` also what to write instead of it, if that is
@@ -200,8 +248,8 @@ fn passed(
     Ok(from)
 }
 
-// Adds a fault for each construct. Each further one is looked for behind the token at which the one
-// before it begins, as if spaces stood in the place of that token. Names are looked at in lower
+// Adds the faults of the constructs. Each further one is looked for behind the token at which the
+// one before it begins, as if spaces stood in the place of that token. Names are looked at in lower
 // case, as the query is when it is asked whether it is portable.
 fn add_constructs(
     faults: &mut Vec<Fault>,
@@ -216,6 +264,7 @@ fn add_constructs(
     text.extend_from_slice(lowered.as_slice())?;
     let mut from = 0usize;
     let mut texts = ConstructTexts::new(mode);
+    let mut count = FaultCount(0);
     // Each construct has a byte.
     for _ in 0..query.bytes.len() {
         let rest = &text.as_slice()[from.min(text.len())..];
@@ -223,10 +272,12 @@ fn add_constructs(
             break;
         };
         let at = from.saturating_add(found.at);
-        let place = places.place_of(alloc, at.saturating_sub(2))?;
-        let what = construct_told(alloc, &mut texts, rest, found, mode)?;
-        add_fault(faults, place, what)?;
+        if count.tells_next() {
+            let place = places.place_of(alloc, at.saturating_sub(2))?;
+            let what = construct_told(alloc, &mut texts, rest, found, mode)?;
+            add_fault(faults, place, what)?;
+        }
         from = passed(alloc, text.as_mut_slice(), from, at, mode)?;
     }
-    Ok(())
+    add_untold(faults, alloc, query, count)
 }

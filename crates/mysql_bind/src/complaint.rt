@@ -108,13 +108,18 @@ pub fn bad_file(alloc: Global, path: &str, what: &str) -> Complaint {
     }
 }
 
+/// A complaint about a folder in the place of a file.
+pub fn bad_folder(alloc: Global, path: &str) -> Complaint {
+    bad_file(alloc, path, "this is a folder: name a file in it")
+}
+
 /// A complaint about a file for which a system call failed.
 pub fn failed_file(alloc: Global, path: &str, error: &io::Error) -> Result<Complaint, AllocError> {
     if error.kind() == io::ErrorKind::OutOfMemory {
         return Ok(Complaint::Memory);
     }
     if error.kind() == io::ErrorKind::IsADirectory {
-        return Ok(bad_file(alloc, path, "this is a folder: name a file in it"));
+        return Ok(bad_folder(alloc, path));
     }
     let what = format!(in alloc; "{error}")?;
     Ok(bad_file(alloc, path, what.as_str()))

@@ -61,7 +61,7 @@ with `;` on a line of its own. The values above are the same in each row:
                             or don't; without these it is told on a terminal
 
 Literals:
-      --literals=steady      no sql_mode and no character set reads them otherwise
+      --literals=steady      no sql_mode and no character set moves their ends
                              (the default); the query is ASCII without a backslash
       --literals=plain       for one sql_mode, which is never guessed:
       --mode=backslash       it hasn't NO_BACKSLASH_ESCAPES

@@ -26,6 +26,7 @@ mod rewritten;
 mod rows;
 mod script;
 mod sources;
+mod sql_modes;
 mod table_script;
 mod told;
 mod values;

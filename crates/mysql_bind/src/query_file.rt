@@ -7,7 +7,7 @@ use crate::values::{Values, wrong_values};
 use mysql_bind_core::{Failure, Request, line_and_column};
 use mysql_binding::{BindError, WideQuery};
 use mysql_fragments::{FragmentsError, SteadyFragmentsError};
-use mysql_named_params::places::PlaceKind;
+use mysql_named_params::places::{FoundPlace, PlaceKind};
 use mysql_steady_text::SteadyTextError;
 use mysql_values::show::Shown;
 use std::alloc::{AllocError, Global};
@@ -112,29 +112,26 @@ pub struct PlaceAt {
     pub end: usize,
 }
 
+/// The place that is found behind this index.
+pub fn place_behind(end: usize, found: &FoundPlace) -> PlaceAt {
+    let at = end.saturating_add(found.before);
+    PlaceAt {
+        kind: found.kind,
+        at,
+        end: at.saturating_add(found.len),
+    }
+}
+
 /// The places of a query, in order.
 pub fn places_of(alloc: Global, query: &WideQuery<'_>) -> Result<Vec<PlaceAt>, AllocError> {
     let mut places = Vec::new(alloc);
     let mut end = 0usize;
     for found in query.surveyed().known {
-        let at = end.saturating_add(found.before);
-        end = at.saturating_add(found.len);
-        let kind = found.kind;
-        places.push(PlaceAt { kind, at, end })?;
+        let place = place_behind(end, found);
+        places.push(place)?;
+        end = place.end;
     }
     Ok(places)
-}
-
-/// The index of each mark of the query.
-pub fn marks_of(alloc: Global, text: &[u8], mode: bool) -> Result<Vec<usize>, AllocError> {
-    let parsed = WideQuery::parse_in(alloc, text, mode)?;
-    let mut marks = Vec::new(alloc);
-    for place in places_of(alloc, &parsed)? {
-        if place.kind == PlaceKind::Mark {
-            marks.push(place.at)?;
-        }
-    }
-    Ok(marks)
 }
 
 /// The message about a mark.
@@ -146,9 +143,11 @@ pub static UNSTEADY: &str = "a mode or a character set may read this byte otherw
 
 // The refusal of the first mark.
 fn mark_refused(alloc: Global, query: &QueryFile<'_>, mode: bool) -> Result<Complaint, AllocError> {
-    let marks = marks_of(alloc, query.bytes.as_slice(), mode)?;
-    let at = match marks.first() {
-        Some(at) => *at,
+    let parsed = WideQuery::parse_in(alloc, query.bytes.as_slice(), mode)?;
+    let places = places_of(alloc, &parsed)?;
+    let mark = places.iter().find(|place| place.kind == PlaceKind::Mark);
+    let at = match mark {
+        Some(place) => place.at,
         None => 0,
     };
     refused_at(alloc, query, at, MARK)

@@ -1,5 +1,6 @@
 //! The request that the options make.
 use crate::complaint::{Complaint, bad_word};
+use crate::sql_modes::literals_of_answer;
 use clap::ArgMatches;
 use mysql_bind_core::{Literals, Portability, Request};
 use std::alloc::Global;
@@ -44,7 +45,7 @@ fn plain_of(
         (Some(mode), None) => Ok(Literals::Plain {
             no_backslash_escape: mode == "no-backslash",
         }),
-        (None, Some(text)) => mode_of_text(alloc, text),
+        (None, Some(text)) => literals_of_answer(alloc, text),
         (Some(_), Some(_)) => Err(bad_word(alloc, "give one of --mode and --sql-mode")),
         (None, None) => Err(bad_word(
             alloc,
@@ -52,44 +53,4 @@ fn plain_of(
              with what SELECT @@sql_mode answered",
         )),
     }
-}
-
-// The mode of what a server answered.
-fn mode_of_text(alloc: Global, text: &str) -> Result<Literals, Complaint> {
-    if text.is_empty() {
-        return Err(bad_word(
-            alloc,
-            "--sql-mode is empty, as is the answer of a client that failed: give --mode",
-        ));
-    }
-    if !text.split(',').all(|word| is_mode_word(word)) {
-        return Err(bad_word(
-            alloc,
-            "--sql-mode is no list of modes as SELECT @@sql_mode answers it, such as \
-             ANSI_QUOTES,STRICT_TRANS_TABLES: ask by `mysql -N`",
-        ));
-    }
-    if has_mode(text, "ORACLE") {
-        return Err(bad_word(
-            alloc,
-            "no text is written for the mode ORACLE, in which `||` and an empty text mean other \
-             things: give --mode to write it all the same",
-        ));
-    }
-    Ok(Literals::Plain {
-        no_backslash_escape: has_mode(text, "NO_BACKSLASH_ESCAPES"),
-    })
-}
-
-// Whether the word is one of a list that a server writes.
-fn is_mode_word(word: &str) -> bool {
-    !word.is_empty()
-        && word.bytes().all(|byte| byte.is_ascii_uppercase()
-            || byte.is_ascii_digit()
-            || byte == b'_')
-}
-
-// Whether a mode is among those of `@@sql_mode`.
-fn has_mode(text: &str, mode: &str) -> bool {
-    text.split(',').any(|word| word == mode)
 }

@@ -11,11 +11,8 @@ pub struct Sources {
     taken: Vec<i32>,
 }
 
-// The descriptor that a path stands for.
-fn descriptor_of(path: &str) -> Option<i32> {
-    if path == "-" || path == "/dev/stdin" {
-        return Some(0);
-    }
+/// The descriptor that is named by its number in `/dev/fd` or `/proc/self/fd`.
+pub fn numbered_descriptor(path: &str) -> Option<i32> {
     let digits = match path.strip_prefix("/dev/fd/") {
         Some(digits) => digits,
         None => path.strip_prefix("/proc/self/fd/")?,
@@ -24,6 +21,14 @@ fn descriptor_of(path: &str) -> Option<i32> {
         return None;
     }
     digits.parse::<i32>().ok()
+}
+
+// The descriptor that the path of a source stands for.
+fn descriptor_of(path: &str) -> Option<i32> {
+    match path {
+        "-" | "/dev/stdin" => Some(0),
+        path => numbered_descriptor(path),
+    }
 }
 
 /// The bytes without a byte order mark of UTF-8 before them.
