@@ -10,7 +10,7 @@ type Binder struct {
 }
 
 // BindAnywhere returns the query with literals that depend on no connection: no sql_mode and no character set
-// reads the text otherwise, on MySQL or MariaDB. Nothing has to be asked before it is sent.
+// moves the end of one, on MySQL or MariaDB. Nothing has to be asked before it is sent.
 //
 // The query has to be ASCII without a backslash, also in its comments, and portable. Texts are written so:
 //
@@ -27,7 +27,7 @@ func Bind(mode Mode, query string, args ...any) (string, error) {
 }
 
 // BindInBothModes returns the text of BindAnywhere for a query that may have bytes from 128 on: no sql_mode
-// reads it otherwise. The connection's character set has to be that of the query, utf8mb4 for UTF-8. No
+// moves the end of a literal. The connection's character set has to be that of the query, utf8mb4 for UTF-8. No
 // string of the query may hold a backslash. Each place takes one value, which is no float and no exact
 // number.
 func BindInBothModes(query string, args ...any) (string, error) {

@@ -21,6 +21,7 @@ var codes = map[string]Code{
 	"FORM_END": 3, "FORM_LENGTH_LEAD": 4, "FORM_TYPE": 5, "FORM_MIXED": 6, "FORM_REPEATED": 7, "MIXED": 8, "MISSING": 9,
 	"NAMED_FOR_POSITIONAL": 10, "POSITIONAL_FOR_NAMED": 11, "MARK_COUNT": 12, "NOT_ALONE": 13, "FLOAT": 14, "UNSTEADY": 15,
 	"UNPORTABLE": 16, "FAULT": 17, "BACKSLASH": 18, "UNSTEADY_FRAGMENT": 19,
+	"UNBRACKETED": 21,
 }
 
 // constructs are the names of constructs in cases, in the order of their numbers from 1 on.
@@ -123,19 +124,13 @@ func fragmentOfCase(kind, rest string) any {
 	case "d":
 		return Decimal(rest)
 	case "list":
-		items := []any{}
-		for _, item := range strings.Split(rest, "|") {
-			if rest != "" {
-				items = append(items, valueOfCase(item))
-			}
-		}
-		return items
+		return In(itemsOfCase(rest))
 	case "rows":
-		rows := []any{}
-		for _, row := range strings.Split(rest, "||") {
-			rows = append(rows, fragmentOfCase("list", row))
-		}
-		return rows
+		return In(rowsOfCase(rest))
+	case "implicit_list":
+		return itemsOfCase(rest)
+	case "implicit_rows":
+		return rowsOfCase(rest)
 	case "identifier", "qualified":
 		return namesOfCase(rest)
 	case "identifiers":
@@ -155,6 +150,26 @@ func fragmentOfCase(kind, rest string) any {
 		return KeywordOf{rest}
 	}
 	panic(kind)
+}
+
+// itemsOfCase returns the items of a list or a row.
+func itemsOfCase(text string) []any {
+	items := []any{}
+	for _, item := range strings.Split(text, "|") {
+		if text != "" {
+			items = append(items, valueOfCase(item))
+		}
+	}
+	return items
+}
+
+// rowsOfCase returns rows.
+func rowsOfCase(text string) []any {
+	rows := []any{}
+	for _, row := range strings.Split(text, "||") {
+		rows = append(rows, itemsOfCase(row))
+	}
+	return rows
 }
 
 // namesOfCase returns the names of an identifier.

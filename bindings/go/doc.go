@@ -20,7 +20,9 @@
 //   - *big.Int and Decimal, as exact numbers;
 //   - types whose kind is one of these, as `type Status int`;
 //   - a driver.Valuer, as the sql.Null types, by what its Value returns;
-//   - a slice, as a list for `IN (?)`; a slice of slices, as rows for `VALUES ?`; an empty one is refused;
+//   - a slice, as a list for a place that is alone in brackets, as in `IN (?)`; a slice of slices, as rows for such a
+//     place, or for `VALUES ?`; an empty one is refused;
+//   - what In returns of a slice, for any place, as in `FIELD(id, ?)`;
 //   - Identifier, and a slice of them, as the columns of an INSERT;
 //   - Assignments, for `SET ?`;
 //   - what Keyword and KeywordAmong return.

@@ -28,6 +28,7 @@ const (
 	CodeBackslash          Code = 18 // by BindInBothModes: a backslash in a string of the query
 	CodeUnsteadyFragment   Code = 19 // by BindAnywhere: an Identifier that isn't ASCII without a backslash
 	CodeOtherTable         Code = 20 // the archive's own: it comes from no function of this package
+	CodeUnbracketed        Code = 21 // a slice without In, whose place isn't alone in brackets, as in `IN (?)`
 	CodeValue              Code = -1 // a Go value that can't be bound, or a name that is empty
 	CodeSession            Code = -2 // the connection isn't one that a bound text is for
 	CodeProcessor          Code = -3 // the processor lacks a feature of x86-64-v2
@@ -55,6 +56,7 @@ var (
 	ErrBackslash          error = &cause{CodeBackslash, "a backslash in a string of the query"}
 	ErrUnsteadyFragment   error = &cause{CodeUnsteadyFragment, "a name that isn't ASCII without a backslash"}
 	ErrOtherTable         error = &cause{CodeOtherTable, "the table of another query"}
+	ErrUnbracketed        error = &cause{CodeUnbracketed, "a list for a place that isn't alone in brackets"}
 	ErrValue              error = &cause{CodeValue, "a value that can't be bound"}
 	ErrSession            error = &cause{CodeSession, "a connection that a bound text isn't for"}
 	ErrProcessor          error = &cause{CodeProcessor, "the processor lacks a feature of x86-64-v2"}
@@ -90,16 +92,16 @@ const (
 type BindError struct {
 	// Code says which refusal it is.
 	Code Code
-	// Place is the number of the place in the query for CodeMissing, CodeNotAlone, CodeFloat, CodeFault and
-	// CodeUnsteadyFragment. For those of the form from CodeFormEnd to CodeRepeatedName, and for CodeValue, it
-	// is the number of the argument.
+	// Place is the number of the place in the query for CodeMissing, CodeNotAlone, CodeFloat, CodeFault,
+	// CodeUnsteadyFragment and CodeUnbracketed. For those of the form from CodeFormEnd to CodeRepeatedName, and for
+	// CodeValue, it is the number of the argument.
 	Place int
 	// Position is the byte of the query at which the name of CodeMissing begins, after its colon; the place
-	// of CodeNotAlone; the construct of CodeUnportable; and the byte of CodeUnsteady and CodeBackslash. For
-	// those of the form it is a byte of the form.
+	// of CodeNotAlone and CodeUnbracketed; the construct of CodeUnportable; and the byte of CodeUnsteady and
+	// CodeBackslash. For those of the form it is a byte of the form.
 	Position int
-	// Name is the name that is missing or given twice; the name of the place of CodeFloat, CodeFault and
-	// CodeUnsteadyFragment, if it has one; and of the argument of CodeValue.
+	// Name is the name that is missing or given twice; the name of the place of CodeFloat, CodeFault,
+	// CodeUnsteadyFragment and CodeUnbracketed, if it has one; and of the argument of CodeValue.
 	Name string
 	// Word is the word of the query, without its colon, in which a letter that no name has stands, as in
 	// `:größe`, if that may be why CodeMissing, CodeNotAlone or CodeNamedForPositional came.

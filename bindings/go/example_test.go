@@ -30,6 +30,18 @@ func ExampleDecimal() {
 	// Output: INSERT INTO `shop`.`item` VALUES (1, _utf8mb4'a', 9.99, 0.5e0), (2, _utf8mb4'b', 0.10, NULL) <nil>
 }
 
+// A list for a place alone in brackets, and one that In says to be several arguments.
+func ExampleIn() {
+	ids := []int{3, 1, 2}
+	fmt.Println(mysqlparams.BindAnywhere("SELECT * FROM t WHERE id IN (?) ORDER BY FIELD(id, ?)", ids, mysqlparams.In(ids)))
+
+	_, err := mysqlparams.BindAnywhere("UPDATE t SET doc = JSON_SET(doc, '$.name', ?)", []any{"x", "$.role", "admin"})
+	fmt.Println(err)
+	// Output:
+	// SELECT * FROM t WHERE id IN (3, 1, 2) ORDER BY FIELD(id, 3, 1, 2) <nil>
+	// `?` at byte 43 is one value here, and was given a list: write it alone in brackets, as `IN (?)`, or give In(..)
+}
+
 // A column that a user chose among yours, the columns of an INSERT, and a keyword of the program.
 func ExampleIdentifier() {
 	order, err := mysqlparams.KeywordAmong("DESC", "ASC", "DESC")

@@ -3,6 +3,7 @@ package mysqlparams
 import (
 	"database/sql/driver"
 	"encoding/binary"
+	"fmt"
 	"reflect"
 	"strconv"
 	"strings"
@@ -27,6 +28,17 @@ type Assignment struct {
 // Assignments are columns and what they are set to, in their order, for `SET ?`. None are refused with
 // FaultEmpty. A map isn't one, since it has no order.
 type Assignments []Assignment
+
+// List is a list of values, or rows, that the program says to be several arguments. In makes one.
+type List struct{ items any }
+
+// In returns a slice as a List, which each place takes, as that of `FIELD(id, ?)`. Rows are a slice of slices. What
+// isn't of values, such as a []byte, is refused when it is bound.
+//
+// The place of a bare slice has to be alone in brackets, as in `IN (?)`. So a request with a list, where the program
+// expects one value, doesn't add arguments to a call, as to `JSON_SET(a, '$.b', ?)`. A List does: look first at what
+// comes from outside.
+func In[S ~[]T, T any](items S) List { return List{items} }
 
 // KeywordOf is a keyword of the program. Keyword and KeywordAmong make one.
 type KeywordOf struct{ word string }
@@ -183,7 +195,7 @@ func (w *writer) count(number int) {
 	w.form = binary.LittleEndian.AppendUint32(w.form, uint32(number))
 }
 
-// list writes a slice that is no []byte: a list of values, or rows if its elements are slices.
+// list writes a slice that is no []byte, as what a place takes that is alone in brackets.
 func (w *writer) list(slice any, at level) error {
 	if w.single {
 		return w.refuseValue("is a slice, and a place takes one value here: write a place for each of its values")
@@ -194,9 +206,41 @@ func (w *writer) list(slice any, at level) error {
 	case assignedLevel:
 		return w.refuseAssigned("a slice")
 	}
+	return w.several(slice, implicit)
+}
+
+// in writes a List, as what each place takes.
+func (w *writer) in(list List, at level) error {
+	if err := w.isPlace("an In", at); err != nil {
+		return err
+	}
+	if !isRow(list.items) {
+		return w.refuseIn(list)
+	}
+	if _, ok := identifiersOf(list.items); ok {
+		return w.refuseIn(list)
+	}
+	return w.several(list.items, explicit)
+}
+
+// refuseIn returns the error for a List of what is no values.
+func (w *writer) refuseIn(list List) error {
+	return w.refuseValue(fmt.Sprintf("is In of a %T, which is no list of values", list.items))
+}
+
+// listTypes are the types of a list and of rows in the form.
+type listTypes struct{ list, rows byte }
+
+var (
+	implicit = listTypes{typeImplicitList, typeImplicitRows}
+	explicit = listTypes{typeList, typeRows}
+)
+
+// several writes a slice: a list of values, or rows if its elements are slices; Identifiers by their own type.
+func (w *writer) several(slice any, types listTypes) error {
 	w.fragments = true
 	if rows, ok := slice.([][]any); ok {
-		w.beginRows(len(rows))
+		w.beginRows(types, len(rows))
 		begin := len(w.form)
 		for i, row := range rows {
 			if err := w.anyItems(row); err != nil {
@@ -213,13 +257,13 @@ func (w *writer) list(slice any, at level) error {
 		return err
 	}
 	if rows {
-		return w.rows(reflect.ValueOf(slice))
+		return w.rows(reflect.ValueOf(slice), types)
 	}
 	if identifiers, ok := identifiersOf(slice); ok {
 		w.identifiers(identifiers)
 		return nil
 	}
-	w.form = append(w.form, typeList, 0)
+	w.form = append(w.form, types.list, 0)
 	return w.items(slice)
 }
 
@@ -236,14 +280,14 @@ func (w *writer) haveMore(count int) {
 }
 
 // beginRows begins so many rows.
-func (w *writer) beginRows(count int) {
-	w.form = append(w.form, typeRows, 0)
+func (w *writer) beginRows(types listTypes, count int) {
+	w.form = append(w.form, types.rows, 0)
 	w.count(count)
 }
 
 // rows writes rows.
-func (w *writer) rows(rows reflect.Value) error {
-	w.beginRows(rows.Len())
+func (w *writer) rows(rows reflect.Value, types listTypes) error {
+	w.beginRows(types, rows.Len())
 	for i := 0; i < rows.Len(); i++ {
 		if err := w.items(rows.Index(i).Interface()); err != nil {
 			return err

@@ -13,7 +13,7 @@ import (
 // TestKeptQueries has a query bound again and again by values in the order of its places, in another one, and
 // by more values than names.
 func TestKeptQueries(t *testing.T) {
-	a, b, more := sql.Named("a", "it's"), sql.Named("B", []any{1, 0.5}), sql.Named("c", 3)
+	a, b, more := sql.Named("a", "it's"), sql.Named("B", In([]any{1, 0.5})), sql.Named("c", 3)
 	valuer := sql.Named("B", upper{"x"})
 	for query, each := range map[string][]struct {
 		args   []any
@@ -103,7 +103,7 @@ func TestKeptAnywhere(t *testing.T) {
 			{[]any{a, sql.Named("B", 0.5)}, "SELECT _utf8mb4'it''s', '?:a', 0.5e0"},
 			{[]any{b}, ""},
 		},
-		"SELECT ?": {{[]any{nil}, "SELECT NULL"}, {[]any{[]int{1, 2}}, "SELECT 1, 2"}, {[]any{1, 2}, ""}},
+		"SELECT ?": {{[]any{nil}, "SELECT NULL"}, {[]any{In([]int{1, 2})}, "SELECT 1, 2"}, {[]any{1, 2}, ""}},
 		"SELECT 2": {{nil, "SELECT 2"}},
 	} {
 		for i := 0; i < 4; i++ {

@@ -20,8 +20,13 @@ func (e *BindError) tellMore(q *question) {
 	case CodeFormMixed:
 		e.message = "Argument " + strconv.Itoa(e.Place) + " differs from those before it: give all a name, or none"
 	case CodeNotAlone:
-		if e.Position >= 0 && e.Position < len(q.query) {
-			e.message = e.touching(q.query)
+		if place := e.place(q.query); place != "" {
+			e.message = e.touching(q.query, place)
+		}
+	case CodeUnbracketed:
+		if place := e.place(q.query); place != "" {
+			e.Name = strings.Clone(place[1:])
+			e.message = e.unbracketed(place)
 		}
 	case CodeFloat:
 		e.message = "The value for " + e.of() + " is a float that isn't written: give nil for NaN and infinities, else a text"
@@ -69,6 +74,27 @@ func (e *BindError) of() string {
 	return "`:" + e.Name + "`"
 }
 
+// place returns what stands in the query at the position, `?` or a name with its colon; nothing outside of the query.
+func (e *BindError) place(query string) string {
+	if e.Position < 0 || e.Position >= len(query) {
+		return ""
+	}
+	place, end := query[e.Position:], 1
+	for place[0] == ':' && end < len(place) && isOfNames(place[end]) {
+		end++
+	}
+	return place[:end]
+}
+
+// unbracketed returns what is wrong with a place for CodeUnbracketed.
+func (e *BindError) unbracketed(place string) string {
+	told := "`" + place + "`"
+	if e.Name == "" {
+		told += " at byte " + strconv.Itoa(e.Position)
+	}
+	return told + " is one value here, and was given a list: write it alone in brackets, as `IN (" + place + ")`, or give In(..)"
+}
+
 // faulty returns what is wrong for CodeFault, and before it of what.
 func (e *BindError) faulty() (subject, wrong string) {
 	item, row := strconv.Itoa(e.Item), strconv.Itoa(e.InRow)
@@ -107,14 +133,9 @@ func (e *BindError) faulty() (subject, wrong string) {
 // beforePlaces has the bytes that may stand directly before a place.
 const beforePlaces = " \t\n\v\f\r(,=<>+-*/%&|^~"
 
-// touching returns what the place of a query touches for CodeNotAlone: the byte before it, or else the one after it.
-func (e *BindError) touching(query string) string {
-	before, place := query[:e.Position], query[e.Position:]
-	end := 1
-	for place[0] == ':' && end < len(place) && isOfNames(place[end]) {
-		end++
-	}
-	place, after := place[:end], place[end:]
+// touching returns what a place of a query touches for CodeNotAlone: the byte before it, or else the one after it.
+func (e *BindError) touching(query, place string) string {
+	before, after := query[:e.Position], query[e.Position+len(place):]
 	neighbour := after
 	if before != "" && !strings.Contains(beforePlaces, before[len(before)-1:]) {
 		neighbour = before[len(before)-1:]

@@ -23,6 +23,7 @@ var inGo = [][2]string{
 	{"Parameter (\\d+) at byte .*: Named and positional .*", "Argument $1 differs from those before it: give all a name, or none"},
 	{"Fragment at (place \\d+) has a name with (.*byte that is not ASCII)", "An Identifier for $1 has $2"},
 	{"Fragment at place \\d+ has a name with (.*): the value of (`:\\w+`)", "An Identifier for $2 has $1"},
+	{"(.* is one value here, .*, or) say by type 129 or 130 .*", "$1 give In(..)"},
 	{"Fragment at (place \\d+) can't be written: it is empty", "The list for $1 is empty"},
 	{"Fragment at place \\d+ can't be written: it is empty: the value of (`:\\w+`)", "The list for $1 is empty"},
 	{"Fragment at (place \\d+) can't be written: row (\\d+) (.*)", "Row $2 for $1 $3"},
@@ -32,6 +33,7 @@ var inGo = [][2]string{
 
 const (
 	withoutName = "The values have names, and the query has no `:name` outside of strings and comments"
+	unbracketed = " is one value here, and was given a list: write it alone in brackets, as "
 	notWritten  = " is a float that isn't written: give nil for NaN and infinities, else a text"
 )
 
@@ -80,13 +82,13 @@ func TestMessages(t *testing.T) {
 		{"SELECT ?.b", []any{1}, "`?` at byte 7 touches `.`: " +
 			"for a name with a point write one place, and give an Identifier of two names"},
 		{"IN (:ids)", []any{sql.Named("ids", []int{})}, "The list for `:ids` is empty"},
-		{"IN (:a, :b)", []any{sql.Named("b", []any{}), sql.Named("a", 1)}, "The list for `:b` is empty"},
-		{"?, ?", []any{1, []string{}}, "The list for place 1 is empty"},
+		{"IN (:a, :b)", []any{sql.Named("b", In([]any{})), sql.Named("a", 1)}, "The list for `:b` is empty"},
+		{"?, ?", []any{1, In([]string{})}, "The list for place 1 is empty"},
 		{"VALUES ?", []any{[][]any{}}, "The list for place 0 is empty"},
 		{"VALUES ?", []any{[][]any{{1}, {}}}, "Row 1 for place 0 is empty"},
 		{"VALUES :r", []any{sql.Named("r", [][]any{{1}, {1, 2}})}, "Row 1 for `:r` is not as long as the first"},
 		{"FROM ?", []any{Identifier{}}, "The list for place 0 is empty"},
-		{"(?)", []any{[]Identifier{{"a"}, {}}}, "The list for place 0 is empty"},
+		{"IN (?)", []any{[]Identifier{{"a"}, {}}}, "The list for place 0 is empty"},
 		{"SET ?", []any{Assignments{}}, "The list for place 0 is empty"},
 		{"SET ?", []any{Assignments{{nil, 1}}}, "The list for place 0 is empty"},
 		{"FROM ?", []any{Identifier{"a", "b\x00"}}, "Name 1 for place 0 has a byte 0"},
@@ -102,6 +104,9 @@ func TestMessages(t *testing.T) {
 			"names are of ASCII letters, digits and _, so `:gr\\xc3\\xb6\\xc3\\x9fe` ends after `gr`"},
 		{"':a'", []any{sql.Named("a", 1)}, withoutName},
 		{"a < :a", []any{1}, `The query has names: give the values by name, as sql.Named("id", 42)`},
+		{"SET a = :a", []any{sql.Named("a", []int{1})}, "`:a`" + unbracketed + "`IN (:a)`, or give In(..)"},
+		{"JSON_SET(a, '$.b', ?)", []any{[]any{1}}, "`?` at byte 19" + unbracketed + "`IN (?)`, or give In(..)"},
+		{"VALUES ?, ?", []any{[][]any{{1}}, [][]any{{2}}}, "`?` at byte 10" + unbracketed + "`IN (?)`, or give In(..)"},
 		{":a", []any{sql.Named("a", 1), sql.Named("a", 1)}, "`:a` is given twice"},
 		{":a, ?", []any{sql.Named("a", 1), 2}, "Argument 1 differs from those before it: give all a name, or none"},
 	} {

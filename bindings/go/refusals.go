@@ -56,7 +56,7 @@ func (r *room) refusalOf(number C.int32_t, q *question, form string) error {
 		found.InRow, found.Position = found.Position, 0
 	}
 	found.message = r.message(number, source)
-	if number == C.MYSQL_PARAMS_ROOM || number < 0 || number > C.MYSQL_PARAMS_OTHER_TABLE {
+	if number == C.MYSQL_PARAMS_ROOM || number < 0 || found.Code > CodeUnbracketed {
 		return wrongArchive("unknown answer " + strconv.Itoa(int(number)))
 	}
 	found.tellMore(q)

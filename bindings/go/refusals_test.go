@@ -65,6 +65,7 @@ func TestCauses(t *testing.T) {
 		1: ErrOutOfMemory, 3: ErrFormEnd, 4: ErrFormLengthLead, 5: ErrFormType, 6: ErrFormMixed, 7: ErrRepeatedName, 8: ErrMixed,
 		9: ErrMissing, 10: ErrNamedForPositional, 11: ErrPositionalForNamed, 12: ErrMarkCount, 13: ErrNotAlone, 14: ErrFloat,
 		15: ErrUnsteady, 16: ErrUnportable, 17: ErrFault, 18: ErrBackslash, 19: ErrUnsteadyFragment, 20: ErrOtherTable,
+		21: ErrUnbracketed,
 		-1: ErrValue, -2: ErrSession, -3: ErrProcessor, -4: ErrArchive,
 	}
 	for code, cause := range causes {

@@ -272,6 +272,29 @@ func TestSentRefusals(t *testing.T) {
 	}
 }
 
+// TestListsThatArentSent has a list of a request refused before a text is sent.
+func TestListsThatArentSent(t *testing.T) {
+	server, db := open(t, "", "utf8mb4")
+	name := fromRequest(`["x", "$.role", "admin"]`)
+	for _, query := range []string{"UPDATE t SET doc = JSON_SET(doc, '$.name', ?)", "UPDATE t SET doc = JSON_SET(doc, '$.näme', ?)"} {
+		for _, to := range connections(t, db) {
+			if err := send(t, to, query, name); !errors.Is(err, ErrUnbracketed) {
+				t.Errorf("%T: %s: %v", to, query, err)
+			}
+		}
+	}
+	if len(server.texts) > 0 {
+		t.Errorf("%q was sent", server.texts)
+	}
+	if err := send(t, db, "SELECT FIELD(id, ?) FROM t WHERE id IN ( ? )", In([]int{3, 1}), []int{1, 3}); err != nil {
+		t.Error(err)
+	}
+	const wanted = "SELECT FIELD(id, 3, 1) FROM t WHERE id IN ( 1, 3 )"
+	if !reflect.DeepEqual(server.texts, []string{wanted, wanted}) {
+		t.Errorf("%q", server.texts)
+	}
+}
+
 func TestModes(t *testing.T) {
 	for sqlMode, wanted := range map[string]Mode{
 		"": BackslashEscapes, "STRICT_ALL_TABLES,ANSI": BackslashEscapes, "NO_BACKSLASH_ESCAPES": NoBackslashEscapes,

@@ -77,6 +77,8 @@ func (w *writer) otherValue(value any, at level, steps int) error {
 		return w.assignments(v, at)
 	case KeywordOf:
 		return w.keyword(v, at)
+	case List:
+		return w.in(v, at)
 	case driver.Valuer:
 		return w.valuer(v, at, steps)
 	default:

@@ -48,18 +48,18 @@ var errBroken = errors.New("secret")
 
 func pointerTo[T any](value T) *T { return &value }
 
-// bound returns the literal of one value, by Bind.
+// bound returns the literal of one value, by Bind, in the brackets of IN, where a slice may stand.
 func bound(t *testing.T, value any) string {
 	t.Helper()
-	text, err := Bind(BackslashEscapes, "?", value)
+	text, err := Bind(BackslashEscapes, "IN (?)", value)
 	if err != nil {
 		t.Errorf("%T: %v", value, err)
 	}
-	named, err := Bind(BackslashEscapes, "(:a)", sql.Named("a", value))
-	if err != nil || named != "("+text+")" {
+	named, err := Bind(BackslashEscapes, "IN (:a)", sql.Named("a", value))
+	if err != nil || named != text {
 		t.Errorf("%T by name: %q, %v", value, named, err)
 	}
-	return text
+	return strings.TrimSuffix(strings.TrimPrefix(text, "IN ("), ")")
 }
 
 func bigOf(text string) *big.Int {
@@ -141,7 +141,7 @@ func TestValues(t *testing.T) {
 func refused(t *testing.T, value any) *BindError {
 	t.Helper()
 	var found *BindError
-	if text, err := Bind(BackslashEscapes, "?", value); !errors.As(err, &found) {
+	if text, err := Bind(BackslashEscapes, "IN (?)", value); !errors.As(err, &found) {
 		t.Fatalf("%T: %q, %v", value, text, err)
 	}
 	return found
@@ -330,7 +330,7 @@ func TestLocation(t *testing.T) {
 			text, err := utc.Bind(BackslashEscapes, "?", Assignments{{Identifier{"a"}, moment}})
 			return strings.TrimPrefix(text, "`a` = "), err
 		},
-		"a list": func() (string, error) { return utc.Bind(BackslashEscapes, "?", []time.Time{moment}) },
+		"a list": func() (string, error) { return utc.Bind(BackslashEscapes, "?", In([]time.Time{moment})) },
 		"BindRows": func() (string, error) {
 			texts, err := utc.BindRows(BackslashEscapes, "?", [][]any{{moment}})
 			return strings.Join(texts, ""), err
@@ -376,7 +376,7 @@ func TestManyValues(t *testing.T) {
 		list[i], args[i] = i, i
 	}
 	marks := strings.TrimSuffix(strings.Repeat("?, ", len(list)), ", ")
-	of, err := Bind(BackslashEscapes, "?", list)
+	of, err := Bind(BackslashEscapes, "?", In(list))
 	each, err2 := Bind(BackslashEscapes, marks, args...)
 	anywhere, err3 := BindAnywhere(marks, args...)
 	wanted := strings.ReplaceAll(strings.Trim(fmt.Sprint(list), "[]"), " ", ", ")

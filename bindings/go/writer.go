@@ -17,6 +17,7 @@ const (
 	typeNumber, typeList, typeRows                     = 128, 129, 130
 	typeIdentifier, typeQualified, typeKeyword    byte = 131, 132, 133
 	typeIdentifiers, typeAssignments              byte = 134, 135
+	typeImplicitList, typeImplicitRows            byte = 136, 137
 	flagUnsigned                                  byte = 128
 )
 

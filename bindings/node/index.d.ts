@@ -15,6 +15,20 @@ export class Double {
   readonly number: number
 }
 
+/**
+ * Several values, where a server may take one too: `COALESCE(?)` of `new In([1, 2])` is `COALESCE(1, 2)`. It holds a list or
+ * rows.
+ *
+ * An array stands alone in brackets after IN, VALUES, `,`, `(`, or the comparison of a row, as in `(a, b) = (?)`. It does so after
+ * VALUE behind the columns, and after ROW where a row may begin. One of rows stands so, or directly after VALUES or such a VALUE.
+ * Elsewhere it is refused, since one in the JSON of a request would become several arguments. So don't make an In of a value from
+ * outside without looking at it.
+ */
+export class In {
+  constructor(items: readonly Item[] | ReadonlyArray<readonly Item[]>)
+  readonly items: readonly Item[] | ReadonlyArray<readonly Item[]>
+}
+
 /** The name of a table or a column, and before it that of what it is in: `new Identifier('db', 't')`. */
 export class Identifier {
   constructor(first: string, ...others: string[])
@@ -67,9 +81,10 @@ export class Keyword {
  * | with a lone surrogate | `'\ud800'` | TypeError |
  * | a `Buffer`, `Uint8Array` of UTF-8 | `Buffer.from('x')` | `'x'` |
  * | of other bytes | `Buffer.from([255, 0])` | `0xFF00` |
- * | a list | `[1, 'a', null]` | `1, 'a', NULL` |
- * | rows | `[[1, 'a'], [2, 'b']]` | `(1, 'a'), (2, 'b')` |
- * | an empty list, rows of two lengths | `[]` | BindError |
+ * | a list | `new In([1, 'a', null])` | `1, 'a', NULL` |
+ * | rows | `new In([[1, 'a'], [2, 'b']])` | `(1, 'a'), (2, 'b')` |
+ * | an empty list, rows of two lengths | `new In([])` | BindError |
+ * | an array without an In | `[1, 2]` | BindError: write `IN (?)`, or give an In |
  * | undefined | `undefined` | TypeError: give null |
  * | an object, a function | `{ password: 1 }` | TypeError: give `Assignments` or `JSON.stringify(..)` of it |
  * | an invalid Date | `new Date(NaN)` | TypeError, with a `timezone` RangeError |
@@ -79,11 +94,12 @@ export type Value = null | boolean | number | bigint | string | Uint8Array | Dat
 /** What may stand in a list or a row, and what a column may be set to. */
 export type Item = Value | Decimal
 
-/** What may stand in a place: also a list, as for `IN (?)`, rows, as for `VALUES ?`, names, assignments and a keyword. */
+/** What may stand in a place: also a list, as in `IN (?)`, rows, as in `VALUES ?`, an In, names, assignments and a keyword. */
 export type Fragment =
   | Item
   | readonly Item[]
   | ReadonlyArray<readonly Item[]>
+  | In
   | Identifier
   | readonly Identifier[]
   | Assignments
@@ -143,6 +159,8 @@ export type Kind =
   | 'BACKSLASH'
   /** By bindAnywhere: an Identifier that isn't ASCII without a backslash. Take bind. */
   | 'UNSTEADY_FRAGMENT'
+  /** An array where one value stands: write its place alone in brackets, as in `IN (?)`, or give an In. */
+  | 'UNBRACKETED'
   /** The connection's `variable` isn't utf8mb4, or the driver's charsetNumber isn't, for a text that isn't ASCII. */
   | 'SESSION'
   /** The text is too long for the connection. */

@@ -4,7 +4,7 @@
 
 const calls = require('./lib/calls.js')
 const { BindError, SessionError } = require('./lib/errors.js')
-const { Assignments, Decimal, Double, Identifier, KEYWORDS, Keyword } = require('./lib/fragments.js')
+const { Assignments, Decimal, Double, Identifier, In, KEYWORDS, Keyword } = require('./lib/fragments.js')
 const { bindRows } = require('./lib/rows.js')
 const { askAgain, execute, query } = require('./lib/sending.js')
 const { Template } = require('./lib/template.js')
@@ -15,6 +15,7 @@ module.exports = {
   Decimal,
   Double,
   Identifier,
+  In,
   KEYWORDS,
   Keyword,
   SessionError,

@@ -7,6 +7,7 @@ export const {
   Decimal,
   Double,
   Identifier,
+  In,
   KEYWORDS,
   Keyword,
   SessionError,

@@ -5,8 +5,8 @@
  *
  * Parameters are a list, for `?`, or have names, for `:name`; a key may have its colon. A value is null, a bool, an int, a float, a
  * string, a DateTimeInterface, a DateInterval of a known length, or a case of an enum with values. Where a place takes more, it is
- * also a list of values, a list of lists as rows, a Decimal, an Identifier or a list of them, Assignments or a Keyword. Anything
- * else is a TypeError, which tells the place.
+ * also a Decimal, an Identifier or a list of them, Assignments, a Keyword, or an In. A place alone in brackets, as `IN (:ids)`, takes
+ * a list of values, or a list of lists as rows. Rows also stand after VALUES. Anything else is a TypeError, which tells the place.
  *
  * A DateTimeInterface is written with its microseconds, in the years 1 to 9999. A DateInterval is hours, minutes and seconds with
  * a sign. PHP makes a float of a whole number that no int holds: write a Decimal. A Decimal of up to 64 bits is taken wherever a
@@ -19,7 +19,7 @@
 namespace MysqlParams;
 
 /**
- * Returns the query with literals in its places that no sql_mode and no character set of a connection reads otherwise.
+ * Returns the query with literals in its places whose ends no sql_mode and no character set of a connection moves.
  *
  * The query is ASCII without a backslash, and portable.
  *
@@ -206,6 +206,27 @@ final class Decimal implements \Stringable
 }
 
 /**
+ * Several arguments, as the program says: a list of values, or a list of lists as rows. It stands anywhere, as in
+ * `FIELD(id, :ids)`.
+ *
+ * An array stands only alone in brackets, as `IN (:ids)`. So a list in a request's JSON adds no arguments to
+ * `JSON_SET(doc, '$.name', :name)`. An In adds them: look first at what comes from outside.
+ */
+final class In
+{
+    /** @var list<mixed> */
+    public readonly array $items;
+
+    /**
+     * @param list<mixed> $items values, or lists of values
+     * @throws \TypeError for an array with keys
+     */
+    public function __construct(array $items)
+    {
+    }
+}
+
+/**
  * The name of a table or a column; `new Identifier('shop', 'item')` is one in another. A point in a name is a part of it. A list of
  * them is written with commas in between.
  */
@@ -365,6 +386,8 @@ class BindException extends \RuntimeException
     const BACKSLASH = 18;
     /** By bind_anywhere: a name that isn't ASCII without a backslash. Take bind. */
     const UNSTEADY_FRAGMENT = 19;
+    /** A list, where one value is meant: write its place alone in brackets, as `IN (:ids)`, or give an In. */
+    const UNBRACKETED = 21;
     /** The connection isn't utf8mb4, or gives no answer. */
     const SESSION = -1;
     /** The text is longer than max_allowed_packet. */

@@ -22,6 +22,7 @@ ERRORS = {
     "POSITIONAL_FOR_NAMED": mysql_params.PositionalForNamedError,
     "MARK_COUNT": mysql_params.MarkCountError,
     "NOT_ALONE": mysql_params.NotAloneError,
+    "UNBRACKETED": mysql_params.UnbracketedError,
     "FLOAT": mysql_params.FloatError,
     "UNSTEADY": mysql_params.UnsteadyError,
     "UNPORTABLE": mysql_params.UnportableError,
@@ -39,6 +40,7 @@ FIELDS = {
     "MISSING": ("place", "position", "name"),
     "MARK_COUNT": ("marks", "values"),
     "NOT_ALONE": ("place", "position"),
+    "UNBRACKETED": ("place", "position"),
     "FLOAT": ("place",),
     "UNSTEADY": ("position",),
     "UNPORTABLE": ("position", "construct"),
@@ -50,7 +52,7 @@ FIELDS = {
 NUMBERS = {"FORM_END": 3, "FORM_LENGTH_LEAD": 4, "FORM_TYPE": 5, "FORM_MIXED": 6, "FORM_REPEATED": 7, "MIXED": 8}
 NUMBERS.update({"MISSING": 9, "NAMED_FOR_POSITIONAL": 10, "POSITIONAL_FOR_NAMED": 11, "MARK_COUNT": 12})
 NUMBERS.update({"NOT_ALONE": 13, "FLOAT": 14, "UNSTEADY": 15, "UNPORTABLE": 16, "FAULT": 17, "BACKSLASH": 18})
-NUMBERS["UNSTEADY_FRAGMENT"] = 19
+NUMBERS.update({"UNSTEADY_FRAGMENT": 19, "UNBRACKETED": 21})
 
 CONSTRUCTS = ["EXECUTABLE_COMMENT", "HINT", "MARIADB_COMMENT", "DASHES", "ESCAPED_QUOTE", "BRACKET", "DOLLAR_QUOTE"]
 CONSTRUCTS += ["DASHES_AFTER_EXPONENT", "PLACE_AFTER_EXPONENT", "OPENER_IN_COMMENT", "JOINING_COMMENT"]
@@ -88,14 +90,16 @@ def value_of(text):
         return int(rest)
     if kind == "d":
         return decimal.Decimal(rest)
-    if kind == "list":
-        return [value_of(item) for item in rest.split("|") if rest]
-    if kind == "rows":
-        return [tuple(value_of(item) for item in row.split("|")) for row in rest.split("||")]
+    if kind in ("list", "implicit_list"):
+        items = [value_of(item) for item in rest.split("|") if rest]
+        return mysql_params.In(items) if kind == "list" else items
+    if kind in ("rows", "implicit_rows"):
+        rows = [tuple(value_of(item) for item in row.split("|")) for row in rest.split("||")]
+        return mysql_params.In(rows) if kind == "rows" else rows
     if kind in ("identifier", "qualified"):
         return identifier_of(rest)
     if kind == "identifiers":
-        return [identifier_of(names) for names in rest.split("||") if rest]
+        return [identifier_of(names) for names in rest.split("||")] if rest else mysql_params.In([])
     if kind == "assignments":
         pairs = [pair.partition("=") for pair in rest.split("||") if rest]
         return mysql_params.Assignments([(column_of(names), value_of(value)) for names, _, value in pairs])

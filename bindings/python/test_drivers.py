@@ -16,7 +16,7 @@ import pymysql
 import sqlalchemy
 
 import mysql_params
-from mysql_params import exec_driver_sql, execute, execute_rows, executemany
+from mysql_params import In, exec_driver_sql, execute, execute_rows, executemany
 from test_mysql_params import Result
 
 DRIVERS = (pymysql, MySQLdb)
@@ -135,6 +135,28 @@ class Test(unittest.TestCase):
                     value = f"{letter}' OR 1=1 -- "
                     rows = exec_driver_sql(connection, "SELECT :a AS a", {"a": value}).all()
                     self.assertEqual([tuple(row) for row in rows], [(value,)])
+
+    def test_a_list_that_was_not_said_to_be_one(self):
+        query, role = "SELECT JSON_VALUE(JSON_SET('{\"role\": \"user\"}', '$.name', :name), '$.role') AS role", ["x", "$.role", "admin"]
+        for driver in DRIVERS:
+            with contextlib.closing(connect(driver)) as connection, connection.cursor() as cursor:
+                self.assertEqual(execute(cursor, query, {"name": "x"}), 1)
+                self.assertEqual(cursor.fetchall(), (("user",),))
+                # What is said to be several arguments is: so a list from outside must not be.
+                execute(cursor, query, {"name": In(role)})
+                self.assertEqual(cursor.fetchall(), (("admin",),))
+                cursor.execute("SHOW SESSION STATUS LIKE 'Questions'")
+                before = int(cursor.fetchall()[0][1])
+                for call, given in ((execute, {"name": role}), (executemany, [{"name": "x"}, {"name": role}])):
+                    with self.assertRaises(mysql_params.UnbracketedError):
+                        call(cursor, query, given)
+                cursor.execute("SHOW SESSION STATUS LIKE 'Questions'")
+                self.assertEqual(int(cursor.fetchall()[0][1]), before + 1)
+            with engine(driver, "utf8mb4").connect() as connection:
+                with self.assertRaises(mysql_params.UnbracketedError):
+                    exec_driver_sql(connection, query, {"name": role})
+                rows = exec_driver_sql(connection, "SELECT 2 IN (:ids) AS a, FIELD(2, :order) AS b", {"ids": [1, 2], "order": In([1, 2])})
+                self.assertEqual([tuple(row) for row in rows], [(1, 2)])
 
     def comes_back(self, cursor):
         """The hostile value comes back as it is."""

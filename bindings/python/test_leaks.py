@@ -14,8 +14,8 @@ import sys
 import tracemalloc
 import unittest
 
-from mysql_params import Assignments, Identifier, Template, bind, bind_anywhere, bind_form, bind_in_both_modes, bind_rows
-from mysql_params import first_unportable, names
+from mysql_params import Assignments, Identifier, In, Template, bind, bind_anywhere, bind_form, bind_in_both_modes, bind_rows
+from mysql_params import _native, first_unportable, names
 from test_mysql_params import Result
 
 COUNT = int(os.environ.get("LEAKS", "4000"))
@@ -24,10 +24,18 @@ MOST = 3000
 
 MOMENT = datetime.datetime(2019, 11, 27, 1, 2, 3, 4)
 VALUES = [None, True, 7, 1 << 63, 0.5, "it's", b"\xff", MOMENT, MOMENT.date(), MOMENT.time(), datetime.timedelta(-1)]
-MORE = [*VALUES, decimal.Decimal("1.5"), 1 << 70, [1, "a"], [(1, 2), [3, 4]], Identifier("a", "b"), bytearray(b"a")]
+MORE = [*VALUES, decimal.Decimal("1.5"), 1 << 70, In([1, "a"]), In([(1, 2), [3, 4]]), Identifier("a", "b"), bytearray(b"a")]
 MORE += [[Identifier("a"), Identifier("b")], Assignments({"a": 1, Identifier("t", "b"): "x"})]
 LONG = "x" * (1 << 17)
-TEMPLATE = Template(":a")
+TEMPLATE = Template("IN (:a)")
+
+
+def send(query, *rows, steady=False):
+    """Make the texts to send of rows, one by one and all at once."""
+    for row in rows:
+        form, is_fragments = _native.written(row, None, True)
+        _native.bind_written(query, form, False, is_fragments, steady)
+    _native.bind_rows(query, rows, False, None, True, steady, [])
 
 
 class Odd:
@@ -53,6 +61,10 @@ ANSWERS = {
     "template": lambda: TEMPLATE.bind({"a": [1, 2]}),
     "new template": lambda: Template("?, ?").bind_form(b"\0\6\0\0\6\0"),
     "rows": lambda: bind_rows("?, ?", [(1, "a"), [0.5, None], (n for n in (1, 2))]),
+    "to send": lambda: send(b"?, ?", MORE[5:7], ("\\", 1), ["'", In([1, "\\"])], [Identifier("\u00e4"), "\\"]),
+    "to send, steady": lambda: send(b"?", ["\\"], [In([1, 0.5])], steady=True),
+    "to send, plain": lambda: send(b"? #\\", ["\\"], [In([1, 0.5])]),
+    "lists": lambda: bind("IN (:a), VALUES :b", {"a": [1, "a"], "b": [(1, 2), [3, 4]]}),
     "names of a query": lambda: names(":a"),
     "portable": lambda: first_unportable("?"),
     "zone": lambda: bind("?", [MOMENT.replace(tzinfo=datetime.timezone.utc)], zone=datetime.timezone.utc),
@@ -69,7 +81,9 @@ REFUSALS = {
     "float": lambda: bind(":a", {"a": float("nan")}),
     "unsteady": lambda: bind_anywhere("\u00e4?", [1]),
     "unportable": lambda: bind_anywhere("[?", [1]),
-    "fault": lambda: bind(":a", {"a": []}),
+    "fault": lambda: bind(":a", {"a": In([])}),
+    "unbracketed": lambda: bind("F(:a)", {"a": [1, "a"]}),
+    "in of a list": lambda: bind("?", [In([1, In([2])])]),
     "unsteady fragment": lambda: bind_anywhere("?", [Identifier("\u00e4")]),
     "backslash": lambda: bind_in_both_modes("'\\\\' ?", [1]),
     "form end": lambda: bind_form("?", b"\0\x08\0"),
@@ -80,6 +94,10 @@ REFUSALS = {
     "template": lambda: TEMPLATE.bind({"b": 1}),
     "row": lambda: bind_rows("?", [[1], [1, 2]]),
     "value of a row": lambda: bind_rows("?", [[1], [Odd()]]),
+    "rows to send": lambda: _native.bind_rows(b"?", [["\\"], [1, 2]], False, None, True, False, []),
+    "row to send": lambda: send(b"?", ["\\", 1]),
+    "unsteady row": lambda: send(b"?\\", [1], steady=True),
+    "query of no bytes": lambda: _native.bind_written("?", b"", False, False, False),
     "rows that end": lambda: bind_rows("?", rows_that_end()),
     "value": lambda: bind("?", [*MORE, Odd()]),
     "item": lambda: bind("?", [[1, Odd()]]),
@@ -102,6 +120,7 @@ REFUSALS = {
 LONG_CALLS = {
     "long text": lambda: bind("?", [LONG]),
     "long rows": lambda: bind_rows("?", [[LONG]] * 3),
+    "long rows to send": lambda: send(b"?", *[["\\" + LONG]] * 3),
     "long query": lambda: names("/*" + LONG + "*/:a"),
     "long refusal": lambda: bind("?, ?", [LONG]),
     "long row that is refused": lambda: bind_rows("?", [[LONG], []]),
@@ -173,7 +192,7 @@ class Test(unittest.TestCase):
             except Exception as fault:
                 found.add(getattr(fault, "number", None))
         # All numbers except those of memory, of a room, and of another table; and the package's own.
-        self.assertEqual(found - {None}, {-1, *range(3, 20)})
+        self.assertEqual(found - {None}, {-1, *range(3, 20), 21})
 
 
 if __name__ == "__main__":

@@ -3,18 +3,24 @@
 import collections
 import datetime
 import decimal
+import itertools
 import sys
 import types
 import unittest
 
 import mysql_params
-from mysql_params import Assignments, Fault, Identifier, execute_rows, executemany
+from mysql_params import Assignments, Fault, Identifier, In, execute_rows, executemany
 from test_mysql_params import Result
 from test_sending import NONE, Connection, Connector, MySQLCursorPrepared, PyMySQL
 
 INSERT, ROWS, UPDATE = "INSERT INTO t VALUES (?, ?)", "INSERT INTO t VALUES ?", "UPDATE t SET a = ? WHERE b = ?"
 NAN = float("nan")
 MOMENT = datetime.datetime(2019, 11, 27, 23, 30, tzinfo=datetime.timezone.utc)
+
+
+def guarded(query, rows):
+    """Return the text of rows without a backslash, whose guarded literals differ from plain ones in their quotes alone."""
+    return mysql_params.bind(query, [rows]).replace(b"\\'", b"''")
 
 
 class Short(list):
@@ -51,10 +57,10 @@ class Test(unittest.TestCase):
             (decimal.Decimal("0.10"), 2**70),
             (b"\xff", None),
             (n for n in (3, 4)),
-            [Identifier("a`"), [1, 2]],
+            [Identifier("a`"), In([1, 2])],
             (MOMENT, datetime.date(2019, 1, 2)),
             (0.25, "a"),
-            [[1, -0.5], 1e16],
+            [In([1, -0.5]), 1e16],
             ([Identifier("a"), Identifier("b")], Assignments({"a": 1})),
         ]
         executemany(connection.cursor(), "SELECT ?, ?", rows, zone=datetime.timezone.utc)
@@ -64,7 +70,7 @@ class Test(unittest.TestCase):
         self.assertEqual(connection.sent, [b"SELECT " + text for text in texts])
         connection = PyMySQL(NONE)
         executemany(connection.cursor(), ":a", [{"a": "\\'"}, {b"a": "x", "b": 2}])
-        self.assertEqual(connection.sent, [b"'\\'''", b"'x'"])
+        self.assertEqual(connection.sent, [b"_utf8mb4 0x5C27", b"'x'"])
 
     def test_very_many_rows(self):
         connection = Connection()
@@ -81,7 +87,7 @@ class Test(unittest.TestCase):
             (b"insert t value(?)", [[0.5], [decimal.Decimal("1.50")]], b"insert t value(0.5e0), (1.50)"),
             (
                 "REPLACE INTO `a ?`.b (`x)`, y) VALUES ( :Y , :x ) ;",
-                [{"x": 1, "Y": "),("}, {"Y": b"\xff", "x": [7], "z": 0}],
+                [{"x": 1, "Y": "),("}, {"Y": b"\xff", "x": In([7]), "z": 0}],
                 b"REPLACE INTO `a ?`.b (`x)`, y) VALUES ( '),(' , 1 ), ( 0xFF , 7 ) ;",
             ),
             (
@@ -104,7 +110,7 @@ class Test(unittest.TestCase):
             self.assertEqual(executemany(connection.cursor(), INSERT, iter(rows)), 3 * len(connection.sent))
             self.assertTrue(all(len(text) <= packet - 4 for text in connection.sent))
             texts = [text[len(head) :] for text in connection.sent]
-            self.assertTrue(head + b", ".join(texts) == mysql_params.bind(ROWS, [rows]))
+            self.assertTrue(head + b", ".join(texts) == guarded(ROWS, rows))
             # The next row wouldn't have fitted into a text.
             after = [text.partition(b"), (")[0] for text in texts[1:]]
             self.assertTrue(all(len(head + a + b) + 3 > packet - 4 for a, b in zip(texts, after)))
@@ -138,7 +144,8 @@ class Test(unittest.TestCase):
             (mysql_params.MarkCountError, (1,)),
             (mysql_params.FloatError, (1, NAN)),
             (mysql_params.FloatError, (0.5, NAN)),
-            (mysql_params.FragmentError, (1, [])),
+            (mysql_params.FragmentError, (1, In([]))),
+            (mysql_params.UnbracketedError, (1, [2, 3])),
             (TypeError, (1, {2})),
             (OverflowError, (1, 10**65)),
             (UnicodeEncodeError, (1, "\ud800")),
@@ -150,7 +157,7 @@ class Test(unittest.TestCase):
                     found = self.refused(kind, executemany, INSERT, [*good[:at], row, *good[:3], 7])
                     self.assertEqual(found.row, at)
         to_do = "give None for NaN and infinities, else a text"
-        for row in ((1, NAN), (0.5, -NAN), ([0.5], [1, NAN])):
+        for row in ((1, NAN), (0.5, -NAN), (In([0.5]), In([1, NAN]))):
             found = self.refused(mysql_params.FloatError, executemany, INSERT, [(0.5, 2), row, (1, {2})])
             self.assertEqual((found.row, str(found)), (1, f"row 1: The value for place 1 is a float: {to_do}"))
 
@@ -182,7 +189,7 @@ class Test(unittest.TestCase):
 
     def test_rows_in_one_text(self):
         for rows, wanted in (
-            ([(1, "a"), [2, "it's"]], b"(1, 'a'), (2, 'it\\'s')"),
+            ([(1, "a"), [2, "it's"]], b"(1, 'a'), (2, 'it''s')"),
             ([{3: 0, 4: None}.keys(), {3: 0, 4: None}.values()], b"(3, 4), (0, NULL)"),
             ([(decimal.Decimal("0.10"), 2**70)], b"(0.10, 1180591620717411303424)"),
             ([(MOMENT,), (b"\xff",)], b"('2019-11-27 23:30:00'), (0xFF)"),
@@ -199,13 +206,13 @@ class Test(unittest.TestCase):
         self.assertEqual(generated.sent, [b"INSERT INTO t VALUES (0, 7), (1, 7)"])
         connection = PyMySQL(NONE)
         execute_rows(connection.cursor(), "VALUES ? ON DUPLICATE KEY UPDATE a = 1", [("\\",)])
-        self.assertEqual(connection.sent, [b"VALUES ('\\') ON DUPLICATE KEY UPDATE a = 1"])
+        self.assertEqual(connection.sent, [b"VALUES (_utf8mb4 0x5C) ON DUPLICATE KEY UPDATE a = 1"])
         self.assertEqual(execute_rows(connection.cursor(), ROWS, iter(())), 0)
         self.assertEqual(len(connection.sent), 1)
 
     def test_rows_by_name(self):
         rows = [{"id": 1, "name": "it's"}, collections.OrderedDict(name=None, id=0.5), types.MappingProxyType({"name": 2, "id": 3})]
-        wanted = b"INSERT INTO t VALUES (1, 'it\\'s'), (0.5e0, NULL), (3, 2)"
+        wanted = b"INSERT INTO t VALUES (1, 'it''s'), (0.5e0, NULL), (3, 2)"
         for query in (ROWS, "INSERT INTO t VALUES :rows"):
             connection = PyMySQL()
             execute_rows(connection.cursor(), query, iter(rows))
@@ -232,7 +239,7 @@ class Test(unittest.TestCase):
 
     def test_parameters_beside_rows(self):
         query = "INSERT INTO :table VALUES :rows ON DUPLICATE KEY UPDATE a = :a, b = :a"
-        beside = {"table": Identifier("s", "t"), b"a": [decimal.Decimal("1.50")], "other": 0}
+        beside = {"table": Identifier("s", "t"), b"a": In([decimal.Decimal("1.50")]), "other": 0}
         for rows in ([(1, "x"), (2, None)], [{"i": 1, "n": "x"}, {"n": None, "i": 2}]):
             connection = PyMySQL()
             execute_rows(connection.cursor(), query, rows, beside)
@@ -251,7 +258,7 @@ class Test(unittest.TestCase):
         execute_rows(connection.cursor(), "VALUES :r, :a", ((n, n) for n in range(500)), {"a": long})
         self.assertTrue(all(len(text) <= 1020 for text in connection.sent))
         self.assertTrue(all(text.count(b"), (") > 3 for text in connection.sent[:-1]))
-        between = b", '" + b"\\'" * 200 + b"'"
+        between = b", '" + b"''" * 200 + b"'"
         self.assertTrue(all(text.endswith(between) for text in connection.sent))
         whole = b", ".join(text[7 : -len(between)] for text in connection.sent)
         self.assertEqual(whole, b", ".join(b"(%d, %d)" % (n, n) for n in range(500)))
@@ -266,9 +273,13 @@ class Test(unittest.TestCase):
             ("VALUES :r, :a", {"a": {1}}, TypeError),
             ("VALUES :r, :a", {"a": 1, "": 1}, ValueError),
             ("VALUES :r, :a", {"a": NAN}, mysql_params.FloatError),
-            ("VALUES :r, :a", {"a": []}, mysql_params.FragmentError),
+            ("VALUES :r, :a", {"a": In([])}, mysql_params.FragmentError),
+            ("VALUES :r, :a", {"a": [(1, 2)]}, mysql_params.UnbracketedError),
             ("VALUES :r, :a", {"a": 1, b"a": 1}, mysql_params.RepeatedNameError),
             ("VALUES :r, 1:a", {"a": 1}, mysql_params.NotAloneError),
+            # A name more and one less, as a request may have them, move the rows to the other place.
+            ("VALUES :r ON DUPLICATE KEY UPDATE a = :a", {"r": 1}, mysql_params.UnbracketedError),
+            ("VALUES :r ON DUPLICATE KEY UPDATE a = COALESCE(:a, b)", {"r": [[1, 2]]}, mysql_params.UnbracketedError),
         ):
             with self.subTest(query=query, params=params):
                 found = self.refused(kind, execute_rows, query, [(1, 2)], params=params)
@@ -276,7 +287,7 @@ class Test(unittest.TestCase):
         for row, kind in (((1, NAN), mysql_params.FloatError), ((1, {2}), TypeError)):
             found = self.refused(kind, execute_rows, "VALUES :r, :a", [(1, 2), row], params={"a": 1})
             self.assertEqual(found.row, 1)
-        found = self.refused(mysql_params.FragmentError, execute_rows, ":a, :r", [(1, 2), (1,)], params={"a": 1})
+        found = self.refused(mysql_params.FragmentError, execute_rows, ":a, (:r)", [(1, 2), (1,)], params={"a": 1})
         self.assertEqual((found.name, found.in_row, found.fault), ("r", 1, Fault.ROW_LENGTH))
         found = self.refused(ValueError, execute_rows, ":r, :b, :a", [(1, 2)], params={"a": 1})
         wanted = "with parameters beside the rows one name is wanted, which takes the rows, and the query has "
@@ -290,7 +301,7 @@ class Test(unittest.TestCase):
             self.assertTrue(all(len(text) <= packet - 4 for text in connection.sent))
             head = b"INSERT INTO t VALUES "
             whole = b", ".join(text[len(head) :] for text in connection.sent)
-            self.assertTrue(head + whole == mysql_params.bind(ROWS, [rows]))
+            self.assertTrue(head + whole == guarded(ROWS, rows))
             # At least a quarter of each is used, except of the last.
             self.assertTrue(all(len(text) > packet // 4 for text in connection.sent[:-1]), packet)
         self.assertGreater(len(connection.sent), 100)
@@ -299,14 +310,57 @@ class Test(unittest.TestCase):
         # A text is never longer than it was estimated to be: then one with two rows is too long.
         for value in (
             *("'" * 50, "\\" * 50, "\0" * 50, b"\xff" * 50, "", None, -(1 << 63), (1 << 64) - 1, 10**65 - 1, 1 - 10**65),
+            *("\u00e9\\" * 50, "\u8aa0\\" * 50, "\u00e9" + "\\" * 50, "\u00e9", "\\", "'", "\u00e9\\", "a"),
             *(datetime.datetime.max, datetime.timedelta.min, datetime.time.max, decimal.Decimal("-0." + "1" * 64)),
             *(-1.2345678901234567e-308, -0.00012345678901234567, -1234567890123456.7, 5.0),
         ):
-            length = len(mysql_params.bind("(?), ", [value]))
-            for packet in range(length + 20, 6 * length + 200, 7):
-                connection = PyMySQL(packet=packet)
-                execute_rows(connection.cursor(), "VALUES ?", [(value,)] * 9)
-                self.assertTrue(all(len(text) <= packet - 4 for text in connection.sent))
+            for sql_mode, steady, width in itertools.product(("", NONE), (False, True), (1, 12)):
+                row, one = (value,) * width, PyMySQL(sql_mode)
+                execute_rows(one.cursor(), "VALUES ?", [row], steady=steady)
+                length = len(one.sent[0])
+                for packet in range(length + 4, 4 * length + 200, 5 * width):
+                    with self.subTest(value=value, sql_mode=sql_mode, steady=steady, packet=packet):
+                        connection = PyMySQL(sql_mode, packet=packet)
+                        execute_rows(connection.cursor(), "VALUES ?", [row] * 5, steady=steady)
+                        self.assertTrue(all(len(text) <= packet - 4 for text in connection.sent))
+
+    def test_guarded_rows(self):
+        rows = [(1, "it's"), ("\u00e9\\", b"\xff\\"), (None, "\\'"), (decimal.Decimal("1.5"), "a\\"), ("\n", ""), (In(["'"]), "\\")]
+        escaped = ["1, 'it''s'", "'\u00e9' '\\\\', 0xFF5C", "NULL, '\\\\'''", "1.5, 'a\\\\'", "'\n', ''", "'''', '\\\\'"]
+        bare = ["1, 'it''s'", "_utf8mb4 0xC3A95C, 0xFF5C", "NULL, _utf8mb4 0x5C27", "1.5, _utf8mb4 0x615C", "'\n', ''"]
+        bare += ["'''', _utf8mb4 0x5C"]
+        of_any = ["1, _utf8mb4'it''s'", "_utf8mb4 0xC3A95C, 0xFF5C", "NULL, _utf8mb4 0x5C27", "1.5, _utf8mb4 0x615C"]
+        of_any += ["_utf8mb4 0x0A, _utf8mb4''", "_utf8mb4'''', _utf8mb4 0x5C"]
+        for sql_mode, steady, wanted in (("", False, escaped), (NONE, False, bare), ("", True, of_any), (NONE, True, of_any)):
+            texts = [text.encode() for text in wanted]
+            for times in (1, 3_000):
+                with self.subTest(sql_mode=sql_mode, steady=steady, times=times):
+                    connection = PyMySQL(sql_mode)
+                    executemany(connection.cursor(), "SELECT ?, ?", rows * times, steady=steady)
+                    self.assertTrue(connection.sent == [b"SELECT " + text for text in texts] * times)
+            connection = PyMySQL(sql_mode)
+            executemany(connection.cursor(), INSERT, rows, steady=steady)
+            execute_rows(connection.cursor(), ROWS, rows[:-1], steady=steady)  # A row takes no list.
+            values = [b"INSERT INTO t VALUES (%s)" % b"), (".join(some) for some in (texts, texts[:-1])]
+            self.assertEqual(connection.sent, values)
+
+    def test_rows_of_queries_and_names_that_are_not_steady(self):
+        rows = [(1, "it's\\"), (2, "\n")]
+        for sql_mode, texts in (("", "(1, 'it\\'s\\\\'), (2, '\\n')"), (NONE, "(1, 'it''s\\'), (2, '\n')")):
+            connection = PyMySQL(sql_mode)
+            for call, query, beside in (
+                (executemany, "INSERT INTO `\u00e9` VALUES (?, ?)", {}),
+                (execute_rows, "INSERT INTO `\u00e9` VALUES ?", {}),
+                (execute_rows, "INSERT INTO :t VALUES :rows", {"params": {"t": Identifier("\u00e9")}}),
+            ):
+                call(connection.cursor(), query, rows, **beside)
+                self.assertEqual(connection.sent.pop(), f"INSERT INTO `\u00e9` VALUES {texts}".encode())
+                kind = mysql_params.UnsteadyFragmentError if beside else mysql_params.UnsteadyError
+                self.refused(kind, call, query, rows, PyMySQL(sql_mode), steady=True, **beside)
+            # Only the row with such a name has plain literals.
+            executemany(connection.cursor(), "SELECT ? = ?", [(Identifier(name), "'") for name in ("a", "\u00e9", "b")])
+            plain = b"''''" if sql_mode == NONE else b"'\\''"
+            self.assertEqual(connection.sent, [b"SELECT `a` = ''''", b"SELECT `\xc3\xa9` = " + plain, b"SELECT `b` = ''''"])
 
     def test_rows_that_are_refused(self):
         good = [(i, "a") for i in range(3_000)]

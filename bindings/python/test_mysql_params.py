@@ -55,7 +55,7 @@ class Test(unittest.TestCase):
                 self.assertEqual(getattr(error, field), argument)
             word = case.fields.get("word")
             self.assertEqual(getattr(error, "word", None), None if word is None else text_of(word))
-            if case.refusal in ("FLOAT", "FAULT", "UNSTEADY_FRAGMENT"):
+            if case.refusal in ("FLOAT", "FAULT", "UNSTEADY_FRAGMENT", "UNBRACKETED"):
                 self.assertEqual(error.name, case.fields.get("of"))
             if case.message is not None:
                 self.assertEqual(str(error), case.message)
@@ -620,7 +620,7 @@ class Test(unittest.TestCase):
         self.assertIsInstance(error, mysql_params.OutOfMemoryError)
         self.assertIsInstance(error, MemoryError)
         self.assertEqual((str(error), error.args), ("out of memory", ()))
-        for number in (-1, 0, 2, 20, 21):
+        for number in (-1, 0, 2, 20, 22):
             self.assertIs(type(_archive.error(number, report, b"", b"")), RuntimeError)
         for number in (16, 17):  # a construct of no number, and a fault of none
             with self.assertRaises(RuntimeError):

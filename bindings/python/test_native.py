@@ -7,6 +7,7 @@ import enum
 import itertools
 import os
 import random
+import re
 import resource
 import signal
 import sys
@@ -17,7 +18,7 @@ import uuid
 from unittest import mock
 
 import mysql_params
-from mysql_params import Assignments, Identifier, Keyword, _archive, _form, _fragments, _many, _native, _values, bind, bind_anywhere
+from mysql_params import Assignments, Identifier, In, Keyword, _archive, _form, _fragments, _many, _native, _values, bind, bind_anywhere
 from mysql_params import bind_rows
 from test_mysql_params import Result
 
@@ -43,6 +44,10 @@ class Color(enum.Enum):
     """A value of another type."""
 
     RED = 7
+
+
+class Several(In):
+    """A subclass, which is for Python."""
 
 
 class Point:
@@ -77,6 +82,7 @@ LISTS += [[Identifier("t"), Identifier("a", "b")], (Identifier("\u20ac"),), [Ide
 LISTS += [[Identifier("t"), Point()], [Identifier("t"), Identifier("\ud800")], [[Identifier("t")]], [Identifier("t"), (1,)]]
 LISTS += [[Keyword("ASC", among=("ASC",))], [Identifier("x" * 300)] * 300, [Color.RED, Identifier("t")], [Assignments({"a": 1})]]
 LISTS += [collections.UserList([1]), collections.deque([1]), [DATES[5], TIMES[1], SPANS[4]], [float("nan")], [True, [1]]]
+LISTS += [Several([1, 2]), *(In(value) for value in LISTS if isinstance(value, (list, tuple)))]
 
 
 def outcome(call):
@@ -89,12 +95,30 @@ def outcome(call):
 
 def is_of_fragments(form):
     """Return whether a parameter without a name is for the calls that bind fragments, by its type and value."""
-    return 128 <= form[1] <= 135 or form[1] == 5 and form[2:] not in map(not_finite, FLOATS[-3:])
+    return 128 <= form[1] <= 137 or form[1] == 5 and form[2:] not in map(not_finite, FLOATS[-3:])
 
 
 def not_finite(number):
     """Return the flags and the value of a double."""
     return _form.value_form(number, 0)[1:]
+
+
+def guarded(value, mode):
+    """Return the guarded literal of bytes in a mode."""
+    try:
+        value.decode()
+    except UnicodeDecodeError:
+        return b"0x" + value.hex().upper().encode()
+    if mode and b"\\" in value:
+        return b"_utf8mb4 0x" + value.hex().upper().encode()
+    doubled = re.sub(rb"['\\]", lambda found: found[0] * 2, value)
+    return b"'" + re.sub(rb"(?<=[\x80-\xff])(?=\\)", b"' '", doubled) + b"'"
+
+
+def sent(query, params, mode, steady=False):
+    """Return the text to send of a query."""
+    form, is_fragments = _native.written(params, None, True)
+    return _native.bind_written(query, form, mode, is_fragments, steady)
 
 
 class Test(unittest.TestCase):
@@ -241,10 +265,10 @@ class Test(unittest.TestCase):
         self.assertEqual(items, [])
         items[:] = [[Point(), 1], 2]
         mysql_params.register(Point, lambda point: bind("?, ?", ["x" * 100, 3]))
-        self.assertEqual(bind("?; ?", [items[0], 4]), b"'\\'" + b"x" * 100 + b"\\', 3', 1; 4")
+        self.assertEqual(bind("IN (?); ?", [items[0], 4]), b"IN ('\\'" + b"x" * 100 + b"\\', 3', 1); 4")
         items[:] = [Point(), 1, 2]
         mysql_params.register(Point, lambda point: items.clear())
-        self.assertEqual(bind("?", [items]), b"NULL, 1, 2")
+        self.assertEqual(bind("IN (?)", [items]), b"IN (NULL, 1, 2)")
 
     def test_iterators_that_raise(self):
         def rows():
@@ -266,6 +290,44 @@ class Test(unittest.TestCase):
                 self.assertTrue(bind("/*" + sign * length + "*/?", ["'"]) == b"/*" + sign.encode() * length + b"*/'\\''")
         query = ",".join([":a"] * 100)
         self.assertTrue(bind(query, {"a": "x" * 2000}) == b",".join([b"'" + b"x" * 2000 + b"'"] * 100))
+
+    def test_guarded_texts(self):
+        """Texts to send, one by one and of many rows at once, have the literals that docs/RULES.md says."""
+        choice, parts = random.Random(7), [text.encode() for text in ("'", "\\", "\u00e9", "\u8aa0", "x", "\0", "\n", '"')]
+        values = [b"".join(choice.choices(parts, k=choice.randrange(7))) for _ in range(5_000)]
+        values += [value + b"\xff" for value in values[:50]]
+        values += [part * length for part in (*parts, b"\xc3\xa9\\", b"\xff\\") for length in (KEPT // 5, KEPT // 2, KEPT)]
+        rows = [(value, number) for number, value in enumerate(values)]
+        for mode in (False, True):
+            wanted, texts = [b"%s, %d" % (guarded(value, mode), number) for value, number in rows], []
+            _native.bind_rows(b"?, ?", rows, mode, None, True, False, texts)
+            self.assertTrue(texts == wanted)
+            self.assertTrue([sent(b"?, ?", row, mode) for row in rows] == wanted)
+            several = b"".join(b", " + guarded(value, mode) for value in values[:5_050])
+            self.assertTrue(sent(b"0, ?", [In(values[:5_050])], mode) == b"0" + several)
+
+    def test_steady_and_plain_texts_to_send(self):
+        rows = [("it's\\",), ("\n",), (In(["'", 0.5]),)]
+        steady = [b"_utf8mb4 0x697427735C", b"_utf8mb4 0x0A", b"_utf8mb4'''', 0.5e0"]
+        for mode, plain in ((False, [b"'it\\'s\\\\'", b"'\\n'", b"'\\'', 0.5e0"]), (True, [b"'it''s\\'", b"'\n'", b"'''', 0.5e0"])):
+            for query, wants_steady, wanted in ((b"?", True, steady), (b"? #\xc3\xa9", False, plain), (b"? #\\", False, plain)):
+                texts = []
+                _native.bind_rows(query, rows * 900, mode, None, True, wants_steady, texts)
+                self.assertTrue(texts == [text + query[1:] for text in wanted] * 900)
+                alone = [sent(query, row, mode, wants_steady) for row in rows]
+                self.assertEqual(alone, texts[:3])
+        for query, wants_steady, kind in (("?", False, TypeError), (b"?", Number, None), (b"?\xc3\xa9", 1, mysql_params.UnsteadyError)):
+            found = outcome(lambda: sent(query, [1], False, wants_steady))
+            self.assertEqual(found[0] if kind else found, kind or b"1")
+
+    def test_a_row_to_send_that_is_refused(self):
+        """The rows before it have their texts, also those with a backslash, which are bound by themselves."""
+        for bad, kind in ((("\\",), mysql_params.MarkCountError), (("\\", {1}), TypeError), (("\\", In([])), mysql_params.FragmentError)):
+            for count in (0, 1, 3_000):
+                texts = []
+                with self.subTest(kind=kind.__name__, count=count), self.assertRaises(kind):
+                    _native.bind_rows(b"?, ?", [("\\", 1)] * count + [bad], False, None, True, False, texts)
+                self.assertTrue(texts == [b"'\\\\', 1"] * count)
 
     def test_others_run_during_long_calls(self):
         moments, is_done = [], threading.Event()

@@ -2,6 +2,7 @@
 
 import datetime
 import pickle
+import re
 import sys
 import unittest
 import unittest.mock
@@ -14,8 +15,8 @@ from test_mysql_params import Result
 STRICT = "STRICT_TRANS_TABLES"
 NONE = "STRICT_TRANS_TABLES,NO_BACKSLASH_ESCAPES"
 HOSTILE = "\\' , 7 -- %s %"
-WITH_BACKSLASHES = b"SELECT '\\\\\\' , 7 -- %s %'"
-WITHOUT = b"SELECT '\\'' , 7 -- %s %'"
+WITH_BACKSLASHES = b"SELECT '\\\\'' , 7 -- %s %'"
+WITHOUT = b"SELECT _utf8mb4 0x5C27202C2037202D2D2025732025"
 
 
 class Connection:
@@ -169,6 +170,26 @@ class Pooled:
         return "result"
 
 
+def outside(text, escapes, gbk=False):
+    """Return what a server in a mode reads outside of a text's strings, of which each is a quote; None if one has no end.
+
+    To gbk a byte from 0x81 on is one letter with the byte after it, if that is from 0x40 on.
+    """
+    kept, at, is_open = bytearray(), 0, False
+    while at < len(text):
+        is_wide = gbk and text[at] >= 0x81 and text[at + 1 : at + 2] >= b"\x40"
+        letter = text[at : at + 1 + is_wide]
+        at += len(letter)
+        if is_open and (letter == b"\\" and escapes or letter == b"'" == text[at : at + 1]):
+            at += 1
+        elif letter == b"'":
+            is_open = not is_open
+            kept += b"'" * is_open
+        elif not is_open:
+            kept += letter
+    return None if is_open else bytes(kept)
+
+
 def dictionary(values):
     return dict(zip("mcnp", values))
 
@@ -318,7 +339,7 @@ class Test(unittest.TestCase):
         cursor = connection.cursor()
         self.send(connection)
         for call, rows in ((execute, [1]), (mysql_params.executemany, [[1], [2]]), (mysql_params.execute_rows, [[1]])):
-            query = "SELECT ?; SET NAMES gbk; SELECT none"
+            query = "VALUES (?); SET NAMES gbk; SELECT none"
             with unittest.mock.patch.object(Cursor, "execute", side_effect=OSError), self.assertRaises(OSError):
                 call(cursor, query, rows)
             asked = connection.asked
@@ -326,7 +347,7 @@ class Test(unittest.TestCase):
             self.assertEqual(connection.asked, asked + 1)
 
     def test_a_text_that_changes_the_session_for_those_after_it(self):
-        for call, query in ((mysql_params.executemany, "SET @a = ?"), (mysql_params.execute_rows, "CALL p ?")):
+        for call, query in ((mysql_params.executemany, "SET @a = ?"), (mysql_params.execute_rows, "CREATE TABLE t VALUES ?")):
             for change, variable in (
                 (lambda own: own.set_mode(NONE), "sql_mode"),
                 (lambda own: own.session.update(client="gbk"), "character_set_client"),
@@ -399,7 +420,7 @@ class Test(unittest.TestCase):
             self.assertEqual(connection.sent, [])
 
     def test_texts_that_a_driver_would_cut(self):
-        for value, position in (("a DELIMiter\t", 10), ("'delimiter x", 10), ("delimiter\n", None), ("delimiter", None), ("limiter ;", None)):
+        for value, position in (("a DELIMiter\t", 10), ("'delimiter x", 10), ("delimiter\n", 8), ("delimiter", None), ("limiter ;", None)):
             for kind in (Connector, PyMySQL, MySQLdb, Connection):
                 connection = kind()
                 if kind is not Connector or position is None:
@@ -408,8 +429,10 @@ class Test(unittest.TestCase):
                 with self.assertRaises(mysql_params.DelimiterError) as raised:
                     self.send(connection, "SELECT :a", {"a": value})
                 self.assertEqual((raised.exception.position, connection.sent), (position, []))
-        # Without backslash escapes a newline stands as it is. A query is refused for its own text too.
-        for query, params in (("SELECT :a", {"a": "delimiter\n"}), ("SELECT delimiter\r", {})):
+        # In a plain text with backslash escapes a newline is one. A query is refused for its own text too.
+        sent = self.send(Connector(), "SELECT :a, '\u00e9'", {"a": "delimiter\n"})
+        self.assertEqual(sent, "SELECT 'delimiter\\n', '\u00e9'".encode())
+        for query, params in (("SELECT :a, '\u00e9'", {"a": "delimiter\n"}), ("SELECT delimiter\r", {})):
             with self.assertRaises(mysql_params.DelimiterError):
                 self.send(Connector(NONE), query, params)
         message = "The text has `delimiter` and white space at byte 7, where MySQL Connector would cut it, in a value too: "
@@ -439,6 +462,103 @@ class Test(unittest.TestCase):
         self.assertEqual(self.send(PyMySQL(), "SELECT :a", {"a": 0.1}), b"SELECT 0.1e0")
         with self.assertRaises(mysql_params.FloatError):
             self.send(PyMySQL(), "SELECT :a", {"a": float("inf")})
+
+    def test_guarded_literals(self):
+        # Each value with its literal in a mode with backslash escapes, and in one without if that is another.
+        for value, escaped, bare in (
+            ("it's", "'it''s'", None),
+            ("", "''", None),
+            ("\u00e9", "'\u00e9'", None),
+            ("\0\n\r\x1a\"`", "'\0\n\r\x1a\"`'", None),
+            ("\\", "'\\\\'", "_utf8mb4 0x5C"),
+            ("\\'", "'\\\\'''", "_utf8mb4 0x5C27"),
+            ("\u00e9\\", "'\u00e9' '\\\\'", "_utf8mb4 0xC3A95C"),
+            ("\u00e9\\'\\\\", "'\u00e9' '\\\\''\\\\\\\\'", "_utf8mb4 0xC3A95C275C5C"),
+            (b"\xff\\'", "0xFF5C27", None),
+            (b"a\\", "'a\\\\'", "_utf8mb4 0x615C"),
+            (None, "NULL", None),
+            (-7, "-7", None),
+            (0.5, "0.5e0", None),
+            (datetime.date(2019, 11, 27), "'2019-11-27'", None),
+            (mysql_params.In(["it's", "\\"]), "'it''s', '\\\\'", "'it''s', _utf8mb4 0x5C"),
+            (mysql_params.Assignments({"a": "\\'"}), "`a` = '\\\\'''", "`a` = _utf8mb4 0x5C27"),
+        ):
+            for sql_mode, literal in ((STRICT, escaped), (NONE, escaped if bare is None else bare)):
+                with self.subTest(value=value, sql_mode=sql_mode):
+                    self.assertEqual(self.send(PyMySQL(sql_mode), params={"a": value}), f"SELECT {literal}".encode())
+                    self.assertEqual(self.send(PyMySQL(sql_mode), "SELECT ?", [value]), f"SELECT {literal}".encode())
+        self.assertEqual(self.send(PyMySQL(), "SELECT 1 IN (:a)", {"a": ["it's", 2]}), b"SELECT 1 IN ('it''s', 2)")
+        # Of a long query a table is kept, by which no guarded text is bound.
+        columns = "a, " * 2000
+        self.assertEqual(self.send(PyMySQL(), f"SELECT {columns}:a", {"a": "it's"}), f"SELECT {columns}'it''s'".encode())
+
+    def test_a_mode_and_a_set_that_were_not_told(self):
+        # The session that reads the text has another mode or set than the connection told.
+        values = (HOSTILE, "' , 7 -- ", "\\", "\u00e9\\' , 7 -- ", "\u8aa0' , 7 -- ", "\u8aa0\\", b"\xbf' , 7", "\\\\' '\\\\\\' , 7 -- ")
+        for sql_mode in (STRICT, NONE):
+            for value in values:
+                sent = self.send(PyMySQL(sql_mode), "SELECT :a, 'kept', :b", {"a": value, "b": value})
+                for escapes in (True, False):
+                    for gbk in (True, False):
+                        with self.subTest(sql_mode=sql_mode, value=value, escapes=escapes, gbk=gbk):
+                            read = outside(sent, escapes, gbk)
+                            # Strings with white space between them are one, and digits stand for one too.
+                            read = re.sub(rb"' '|(?:_utf8mb4 )?0x[0-9A-F]+", b"'", read)
+                            self.assertEqual(read, b"SELECT ', ', '")
+        # Of a plain text a value leaves its literal.
+        plain = self.send(PyMySQL(), "SELECT :a, '\u00e9'", {"a": "' , 7 -- "})
+        self.assertEqual([outside(plain, escapes) for escapes in (True, False)], [b"SELECT ', '", None])
+        plain = self.send(PyMySQL(), "SELECT :a, '\u00e9'", {"a": "\u8aa0' , 7 -- '"})
+        self.assertIn(b" , 7 -- ", outside(plain, True, gbk=True))
+
+    def test_queries_and_names_that_are_not_steady(self):
+        name = mysql_params.Identifier("\u00e9")
+        for query, params, wanted in (
+            ("SELECT :a /* \u00e9 */", {}, "SELECT {} /* \u00e9 */"),
+            ("SELECT :a, '\\\\'", {}, "SELECT {}, '\\\\'"),
+            ("SELECT :n = :a", {"n": name}, "SELECT `\u00e9` = {}"),
+            ("SELECT :n = :a", {"n": mysql_params.Identifier("a\\b", "c")}, "SELECT `a\\b`.`c` = {}"),
+            ("SET :n, b = :a", {"n": mysql_params.Assignments({name: "x"})}, "SET `\u00e9` = 'x', b = {}"),
+            ("SELECT " + "a, " * 2000 + ":a, :n", {"n": name}, "SELECT " + "a, " * 2000 + "{}, `\u00e9`"),
+            ("SELECT " + "\u00e9, " * 2000 + ":a", {}, "SELECT " + "\u00e9, " * 2000 + "{}"),
+        ):
+            for sql_mode, literal in ((STRICT, "'it\\'s\\\\'"), (NONE, "'it''s\\'")):
+                with self.subTest(query=query[:20], sql_mode=sql_mode):
+                    sent = self.send(PyMySQL(sql_mode), query, {"a": "it's\\", **params})
+                    self.assertEqual(sent, wanted.format(literal).encode())
+        # Texts that are longer than the room that is kept.
+        for sql_mode, length in ((STRICT, 160_000), (NONE, 160_000)):
+            given = {"n": name, "a": "it's" * (length // 5)}
+            sent = self.send(PyMySQL(sql_mode), "SELECT :n, :a", given)
+            quote = "''" if sql_mode == NONE else "\\'"
+            self.assertTrue(sent == f"SELECT `\u00e9`, '{f'it{quote}s' * (length // 5)}'".encode())
+
+    def test_steady_texts(self):
+        steady = b"SELECT _utf8mb4'it''s', _utf8mb4 0x5C, _utf8mb4 0xC3A9, 0xFF, 1"
+        values = ["it's", "\\", "\u00e9", b"\xff", 1]
+        for sql_mode in (STRICT, NONE):
+            connection = PyMySQL(sql_mode)
+            self.assertEqual(self.send(connection, "SELECT ?, ?, ?, ?, ?", values, steady=True), steady)
+            self.assertEqual(self.send(connection, "SELECT ?", [mysql_params.In(values)], steady=True), steady)
+            pooled = Pooled(PyMySQL(sql_mode))
+            exec_driver_sql(pooled, "SELECT ?", [mysql_params.In(values)], steady=True)
+            self.assertEqual(pooled.calls[0][0], (steady.decode(),))
+        for query, params, kind in (
+            ("SELECT '\u00e9', :a", {"a": 1}, mysql_params.UnsteadyError),
+            ("SELECT '\\\\', :a", {"a": 1}, mysql_params.UnsteadyError),
+            ("SELECT :n", {"n": mysql_params.Identifier("\u00e9")}, mysql_params.UnsteadyFragmentError),
+            ("SELECT :n", {}, mysql_params.MissingError),
+        ):
+            connection = PyMySQL()
+            for call in (lambda: self.send(connection, query, params, steady=True), lambda: mysql_params.bind_anywhere(query, params)):
+                with self.subTest(query=query), self.assertRaises(kind):
+                    call()
+            self.assertEqual(connection.sent, [])
+        # The connection is asked all the same.
+        with self.assertRaises(mysql_params.SessionError):
+            self.send(PyMySQL(client="gbk"), steady=True)
+        with self.assertRaises(mysql_params.PacketError):
+            self.send(PyMySQL(packet=20), steady=True)
 
     def test_zones(self):
         moment = datetime.datetime(2019, 11, 27, 23, 30, tzinfo=datetime.timezone.utc)
@@ -492,15 +612,15 @@ class Test(unittest.TestCase):
             ("sjis", ("\u8868' OR 1=1 -- ", "\u00a5' OR 1=1 -- ")),
             ("gb18030", ("\u8aa0' OR 1=1 -- ", "\U0001f600")),
             ("cp1252", ("\u00e9",)),
-            ("shift_jis_2004", ("' OR 1=1 -- ",)),
-            ("utf7", ("' OR 1=1 -- ",)),
+            ("shift_jis_2004", ("\\' OR 1=1 -- ",)),
+            ("utf7", ("\\' OR 1=1 -- ",)),
             ("utf16", ("a",)),
             ("utf-8-sig", ("a",)),
             ("no codec", ("a",)),
             ("no\0codec", ("a",)),
             ("hex", ("a",)),
-            (None, ("\u00e9", "it's")),
-            (7, ("\u00e9", "it's")),
+            (None, ("\u00e9", "a\\b")),
+            (7, ("\u00e9", "a\\b")),
         ):
             for kind in (PyMySQL, MySQLdb, Connector):
                 own = kind()
@@ -517,13 +637,13 @@ class Test(unittest.TestCase):
                             self.assertEqual(str(raised.exception), f"The driver's encoding is {encoding}, {to_do}")
 
     def test_drivers_that_make_the_same_bytes(self):
-        for encoding, value in (
-            ("utf8", "\u8aa0' OR 1=1 -- "),
-            ("UTF-8", "\U0001f600"),
-            ("gbk", "it's \\ ~"),
-            ("sjis", "it's \\ ~"),
-            ("ascii", "it's"),
-            (None, "its ~"),
+        for encoding, value, literal in (
+            ("utf8", "\u8aa0' OR 1=1 -- ", "'\u8aa0'' OR 1=1 -- '"),
+            ("UTF-8", "\U0001f600", "'\U0001f600'"),
+            ("gbk", "it's \\ ~", "'it''s \\\\ ~'"),
+            ("sjis", "it's \\ ~", "'it''s \\\\ ~'"),
+            ("ascii", "it's", "'it''s'"),
+            (None, "it's ~", "'it''s ~'"),
         ):
             for kind in (PyMySQL, MySQLdb, Connector):
                 own = kind()
@@ -531,11 +651,11 @@ class Test(unittest.TestCase):
                 pooled = Pooled(own)
                 exec_driver_sql(pooled, "SELECT :a", {"a": value})
                 ((text,), _), = pooled.calls
-                self.assertEqual(text, mysql_params.bind("SELECT :a", {"a": value}).decode())
+                self.assertEqual(text, "SELECT " + literal)
 
     def test_drivers_whose_encoding_is_unknown(self):
         pooled = Pooled(Connection())
-        for value in ("\u00e9", "it's"):
+        for value in ("\u00e9", "a\\b"):
             with self.assertRaises(mysql_params.EncodingError) as raised:
                 exec_driver_sql(pooled, "SELECT :a", {"a": value})
             to_do = "give execute a cursor of the driver, which gets bytes"

@@ -3,10 +3,11 @@
 import ctypes
 import sys
 import unittest
+from unittest import mock
 
 import mysql_params
-from mysql_params import OutOfMemoryError, Template, _native, bind, bind_anywhere, bind_form, bind_in_both_modes, bind_rows
-from mysql_params import first_unportable, names
+from mysql_params import OutOfMemoryError, Template, UnbracketedError, _archive, _native, bind, bind_anywhere, bind_form
+from mysql_params import bind_in_both_modes, bind_rows, first_unportable, names
 from test_mysql_params import Result
 
 MOST = ctypes.c_size_t.in_dll(ctypes.CDLL(_native.__file__), "told_most")
@@ -18,6 +19,7 @@ CALLS = (
     ("bind_anywhere", lambda query, given: bind_anywhere(query, given)),
     ("bind_in_both_modes", lambda query, given: bind_in_both_modes(query, given)),
     ("bind_form", lambda query, given: bind_form(query, b"")),
+    ("text to send", lambda query, given: _native.bind_written(query.encode(), _native.written(given, None, True)[0], False, False, False)),
     ("bind of a list", lambda query, given: bind(query, [given])),
     ("bind_anywhere of a list", lambda query, given: bind_anywhere(query, [given])),
 )
@@ -47,7 +49,7 @@ class Test(unittest.TestCase):
                 self.assertEqual(str(raised.exception), message)
 
     def test_numbers_of_no_answer(self):
-        for number in (-1, 20, 21):
+        for number in (-1, 20, 22):
             for name, call in CALLS:
                 with self.subTest(call=name, number=number), self.assertRaises(RuntimeError) as raised:
                     call(f"{number}", [1])
@@ -60,6 +62,16 @@ class Test(unittest.TestCase):
             with self.assertRaises(RuntimeError):
                 bind(query)
 
+    def test_lists_that_were_not_said_to_be_lists(self):
+        for names_of_query, name, place in ((["a", "b"], "b", "`:b`"), ([], None, "`?` at byte 31")):
+            with mock.patch.object(_archive, "names_of", lambda query, mode: (query, names_of_query)):
+                for call_name, call in CALLS:
+                    with self.subTest(call=call_name), self.assertRaises(UnbracketedError) as raised:
+                        call("21 0 1 31", [1])
+                    found = raised.exception
+                    self.assertEqual((found.place, found.position, found.name), (1, 31, name))
+                    self.assertTrue(str(found).startswith(place + " is one value here, and was given a list: "))
+
     def test_answers_that_are_no_rows(self):
         with self.assertRaisesRegex(RuntimeError, "wrote 1000000 bytes, and had room for "):
             bind_rows("0 0 0 1000000", [[1]])
@@ -69,6 +81,8 @@ class Test(unittest.TestCase):
             with self.subTest(byte=byte), self.assertRaisesRegex(RuntimeError, "no row of strings"):
                 bind_rows(f"0 0 0 2 {byte}", [[1]])
         self.assertEqual(bind_rows("0 0 0 4 1", [[1]]), [b"\x01", b"\x01"])
+        with self.assertRaisesRegex(RuntimeError, "it read more than the forms"):
+            _native.bind_rows(b"0 0 0 4 1", [[1]], False, None, True, False, [])  # More texts than it read forms.
         with self.assertRaisesRegex(RuntimeError, "it read more than the forms"):
             bind_rows("8 0 12 0", [[1]])  # A refusal of the row after the last.
 

@@ -156,7 +156,7 @@ class Test(unittest.TestCase):
         ):
             with self.subTest(value=repr(value)):
                 self.assertEqual(bind("?", [value]), wanted)
-                self.assertEqual(bind("?", [[value]]), wanted)
+                self.assertEqual(bind("IN (?)", [[value]]), b"IN (" + wanted + b")")
         self.assertEqual(bind("?, ?", numpy.array([1, 2])), b"1, 2")
         self.assertEqual(bind("?, ?", numpy.array([0.5, 2], numpy.float32)), b"0.5e0, 2.0e0")
         for value in (numpy.longdouble(1.5), numpy.datetime64("2019-11-27"), numpy.array([1])):
@@ -205,7 +205,8 @@ class Test(unittest.TestCase):
         to_do = ": give None for NaN and infinities, else a text"
         for value in (float("nan"), float("inf"), float("-inf")):
             for call in (bind, mysql_params.bind_anywhere, lambda query, given: mysql_params.Template(query).bind(given)):
-                for given in (value, [0.5, value], ["a", value], [(0.5, 1), (2, value)]):
+                lists = ([0.5, value], ["a", value], [(0.5, 1), (2, value)])
+                for given in (value, *map(mysql_params.In, lists)):
                     with self.subTest(given=given), self.assertRaises(mysql_params.FloatError) as raised:
                         call(":a, :b", {"a": 0.5, "b": given})
                     self.assertEqual((raised.exception.place, raised.exception.name), (1, "b"))
@@ -267,9 +268,9 @@ class Test(unittest.TestCase):
             with self.subTest(value=value):
                 self.assertEqual(bind("?", [value]), wanted)
                 self.assertEqual(bind(":a", {"a": value}), wanted)
-                self.assertEqual(bind("?", [[1, value]]), b"1, " + wanted)
-                self.assertEqual(bind("?", [[(1, value)]]), b"(1, " + wanted + b")")
-                self.assertEqual(mysql_params.bind_anywhere("?, ?", [value, [value]]), wanted + b", " + wanted)
+                self.assertEqual(bind("IN (?)", [[1, value]]), b"IN (1, " + wanted + b")")
+                self.assertEqual(bind("VALUES ?", [[(1, value)]]), b"VALUES (1, " + wanted + b")")
+                self.assertEqual(mysql_params.bind_anywhere("?, (?)", [value, [value]]), wanted + b", (" + wanted + b")")
                 message = "the value for place 0 is a whole number of more than 64 bits, which bind, bind_anywhere and"
                 with self.assertRaisesRegex(OverflowError, "^" + message):
                     mysql_params.bind_in_both_modes("?", [value])
@@ -326,6 +327,9 @@ class Test(unittest.TestCase):
         with self.assertRaises(mysql_params.FloatError):
             bind("?", [Point("nan")])
         register(Point, lambda point: [1])
+        self.assertEqual(bind("IN (:a)", {"a": Point(1)}), b"IN (1)")
+        self.assertRaises(mysql_params.UnbracketedError, bind, ":a", {"a": Point(1)})
+        register(Point, lambda point: mysql_params.In([1]))
         self.assertEqual(bind(":a", {"a": Point(1)}), b"1")
         register(Point, lambda point: point)
         with self.assertRaisesRegex(TypeError, "the functions that are registered for a Point make no end"):
@@ -342,8 +346,11 @@ class Test(unittest.TestCase):
             (b"ab", b"'ab'"),
         ):
             with self.subTest(value=value):
-                self.assertEqual(bind("?", [value]), wanted)
-                self.assertEqual(bind(":a", {"a": value}), wanted)
+                self.assertEqual(bind("IN (?)", [value]), b"IN (" + wanted + b")")
+                self.assertEqual(bind("IN (:a)", {"a": value}), b"IN (" + wanted + b")")
+                said = mysql_params.In(value) if isinstance(value, (list, tuple)) else value
+                self.assertEqual(bind("?", [said]), wanted)
+                self.assertEqual(bind(":a", {"a": said}), wanted)
 
     def test_lists_that_are_refused(self):
         to_do = "lists and rows are of values, or a list of Identifiers alone, so write a place for each"
@@ -453,7 +460,7 @@ class Test(unittest.TestCase):
         self.assertEqual((raised.exception.fault, raised.exception.item), (mysql_params.Fault.ZERO_BYTE, 2))
 
     def test_forms_by_hand(self):
-        """The form of identifiers and assignments, written by hand from mysql_params.h."""
+        """The form of identifiers, assignments, lists and rows, written by hand from mysql_params.h."""
         identifier = mysql_params.Identifier
         columns = [identifier("a"), identifier("t", "b")]
         assigned = mysql_params.Assignments([("a", 1), (identifier("t", "b"), "x"), ("c", decimal.Decimal("-1.50"))])
@@ -462,6 +469,10 @@ class Test(unittest.TestCase):
         wanted += b"\x03set\x87\0" + three + one + b"\x01a\x08\0\x01" + bytes(7)
         wanted += two + b"\x01t\x01b\xfd\0\x01x" + one + b"\x01c\x80\0\x05-1.50"
         self.assertEqual(_native.written({"columns": columns, "set": assigned}, None, True), (wanted, True))
+        item, several = b"\x08\0\x01" + bytes(7), mysql_params.In
+        lists = (([1], 136, item), ([(1,)], 137, one + item), (several([1]), 129, item), (several([[1]]), 130, one + item))
+        for value, of_type, rest in lists:
+            self.assertEqual(_native.written([value], None, True), (bytes([0, of_type, 0]) + one + rest, True))
 
     def test_many_items(self):
         numbers = list(range(-50_000, 50_000))
@@ -533,8 +544,8 @@ class Test(unittest.TestCase):
                 self.assertEqual(bind("?", [value]), wanted)
                 self.assertEqual(bind(":a", {"a": value}), wanted)
                 self.assertEqual(mysql_params.bind_in_both_modes("?", [value]), wanted)
-                self.assertEqual(bind("?", [[value, value]]), wanted + b", " + wanted)
-                self.assertEqual(bind("?", [[[value]]]), b"(" + wanted + b")")
+                self.assertEqual(bind("IN (?)", [[value, value]]), b"IN (" + wanted + b", " + wanted + b")")
+                self.assertEqual(bind("VALUES ?", [[[value]]]), b"VALUES (" + wanted + b")")
                 self.assertEqual(bind("?", [mysql_params.Assignments({"a": value})]), b"`a` = " + wanted)
 
     def test_parameters_in_order(self):

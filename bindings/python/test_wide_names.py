@@ -43,7 +43,7 @@ class Test(unittest.TestCase):
         self.assertEqual(bind(query, given), wanted)
         self.assertEqual(bind_anywhere(query, given), wanted)
         with self.assertRaises(mysql_params.FragmentError) as raised:
-            bind("(:userIds)", {"userIds": []})
+            bind("IN (:userIds)", {"userIds": []})
         self.assertEqual(raised.exception.name, "userIds")
 
     def test_rows_and_templates(self):
@@ -89,7 +89,7 @@ class Test(unittest.TestCase):
         mysql_params.execute(connection.cursor(), QUERY, GIVEN)
         mysql_params.executemany(connection.cursor(), ":ID", [{"ID": 1}, {"ID": 2}])
         mysql_params.execute_rows(connection.cursor(), "VALUES :Rows", [(1, "a"), (2, "b")])
-        texts = [b"id = 42 AND name = 'it\\'s'", b"1", b"2", b"VALUES (1, 'a'), (2, 'b')"]
+        texts = [b"id = 42 AND name = 'it''s'", b"1", b"2", b"VALUES (1, 'a'), (2, 'b')"]
         self.assertEqual(connection.sent, texts)
         with self.assertRaises(mysql_params.UnportableError):
             mysql_params.execute(connection.cursor(), HINT, {"A": 1})

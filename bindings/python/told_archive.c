@@ -63,6 +63,7 @@ int32_t mysql_params_names_wide(const uint8_t *query, size_t query_len, bool mod
     }
 BIND(mysql_params_bind_wide)
 BIND(mysql_params_bind_fragments_wide)
+BIND(mysql_params_bind_fragments_guarded_wide)
 
 #define BIND_STEADY(name)                                                                                                      \
     int32_t name(const uint8_t *query, size_t query_len, const uint8_t *form, size_t form_len, uint8_t *room, size_t room_len, \

@@ -10,7 +10,7 @@ from collections import OrderedDict
 from typing import Any, Optional, Union
 
 import mysql_params
-from mysql_params import Assignments, Identifier, Keyword, Params, Template, Value
+from mysql_params import Assignments, Identifier, In, Keyword, Params, Template, Value
 from mysql_params import bind, bind_anywhere, bind_form, bind_in_both_modes, bind_rows, first_unportable, names
 
 QUERY = "SELECT * FROM t WHERE id = :id AND name = :name"
@@ -79,6 +79,9 @@ def fragments(idents: list[int], prices: list[tuple[int, decimal.Decimal]], colu
     """Give lists, rows, exact numbers, names and keywords."""
     bind("id IN (?)", [idents])
     bind("id IN (:ids)", {"ids": idents})
+    bind("id IN (?) ORDER BY FIELD(id, ?)", [idents, In(idents)])
+    bind("(id, price) IN (:prices)", {"prices": In(prices)})
+    print(In((1, "a", None)).items)
     bind("id IN (?) AND price < ?", [(1, 2), decimal.Decimal("9.99")])
     measures: list[tuple[int, float]] = [(1, 0.5)]
     bind("x IN (?) OR (i, x) IN (?)", [[0.5, 1], measures])
@@ -120,12 +123,13 @@ def sent(cursor: Any, connection: Any, day: datetime.datetime) -> None:
     bind("?, ?", {"a": 1, "b": 2}.values())
     bind("?", [day], zone=datetime.timezone.utc)
     mysql_params.execute(cursor, QUERY, values, zone=datetime.timezone.utc, always_ask=True)
-    total: int = mysql_params.executemany(cursor, "?", ([number] for number in range(3)))
+    mysql_params.execute(cursor, QUERY, values, steady=True)
+    total: int = mysql_params.executemany(cursor, "?", ([number] for number in range(3)), steady=True)
     total += mysql_params.execute_rows(cursor, "VALUES ?", [(1, "a"), (2, None)])
     total += mysql_params.execute_rows(cursor, "VALUES ?", [{"id": 1, "name": "a"}], {})
-    total += mysql_params.execute_rows(cursor, "INTO :t VALUES :rows", [[1]], {"t": Identifier("t"), "x": 1})
+    total += mysql_params.execute_rows(cursor, "INTO :t VALUES :rows", [[1]], {"t": Identifier("t"), "x": 1}, steady=True)
     total += mysql_params.execute_rows(cursor, b"VALUES ?", ([n, 2**70] for n in range(3)), zone=None, always_ask=True)
-    mysql_params.exec_driver_sql(connection, QUERY, {"id": total}).all()
+    mysql_params.exec_driver_sql(connection, QUERY, {"id": total}, steady=False).all()
     mysql_params.ask_again(connection)
     try:
         mysql_params.execute(cursor, QUERY)
@@ -187,6 +191,8 @@ def refused(ident: int) -> None:
     Keyword("DESC")  # type: ignore[call-arg]
     Assignments(ident)  # type: ignore[call-overload]
     Assignments()  # type: ignore[call-overload]
+    In(ident)  # type: ignore[arg-type]
+    In({ident})  # type: ignore[arg-type]
     bind_form("?", "x")  # type: ignore[arg-type]
     names(5)  # type: ignore[arg-type]
     text: str = bind("?", [ident])  # type: ignore[assignment]

@@ -30,8 +30,12 @@ func TestRefusedMemory(t *testing.T) {
 		"BindInBothModes": func() (string, error) { return BindInBothModes(byName, named...) },
 		"a template":      func() (string, error) { return template.Bind(named...) },
 		"fragments": func() (string, error) {
-			return Bind(BackslashEscapes, "? ?", values,
+			return Bind(BackslashEscapes, "? ?", In(values),
 				Identifier{"a", "b"})
+		},
+		"bare slices": func() (string, error) {
+			return Bind(BackslashEscapes, "a IN (:N0) AND b IN (:N1) AND c = :N2", append(named[2:], sql.Named("N0", values),
+				sql.Named("N1", values))...)
 		},
 		"BindRows": func() (string, error) {
 			texts, err := BindRows(BackslashEscapes, byMark, [][]any{values, values})
@@ -106,7 +110,7 @@ func TestOtherArchive(t *testing.T) {
 		"BindRows":        func() error { _, err := BindRows(BackslashEscapes, "?", [][]any{{1}}); return err },
 		"FirstUnportable": func() error { _, err := FirstUnportable(BackslashEscapes, "?"); return err },
 	}
-	for _, told := range [][2]int{{-7, 0}, {21, 0}, {1000, 1 << 40}} {
+	for _, told := range [][2]int{{-7, 0}, {22, 0}, {1000, 1 << 40}} {
 		for name, call := range calls {
 			if told[0] == 1000 && name == "FirstUnportable" {
 				continue // It has no length.

@@ -12,6 +12,7 @@ import (
 	"math/rand"
 	"os"
 	"reflect"
+	"strconv"
 	"strings"
 	"sync"
 	"testing"
@@ -228,6 +229,46 @@ func TestStored(t *testing.T) {
 	// After SEPARATOR a server wants a plain text: a session sends one.
 	const separated = "SELECT GROUP_CONCAT(name ORDER BY id SEPARATOR ?) FROM shop.t WHERE id IN (?)"
 	if found := query(session(t, db).QueryContext).one(t, separated, "', '", []int{1, 2}); found != "a', 'b" {
+		t.Error(found)
+	}
+}
+
+// TestLists has a list of a request change nothing more than a value would, and lists in calls that take many arguments.
+func TestLists(t *testing.T) {
+	ctx, db := context.Background(), open(t, map[string]string{"sql_mode": withEscapes}, false)
+	for _, text := range []string{
+		"CREATE DATABASE IF NOT EXISTS lists", "CREATE OR REPLACE TABLE lists.t (id INT, doc JSON)",
+		`INSERT INTO lists.t VALUES (1, '{"name": "a", "role": "user"}')`,
+	} {
+		_, err := db.ExecContext(ctx, text)
+		check(t, err)
+	}
+	asked := session(t, db)
+	const received = "SELECT VARIABLE_VALUE - ? FROM information_schema.SESSION_STATUS WHERE VARIABLE_NAME = 'QUESTIONS'"
+	set := func(name any) error {
+		_, err := asked.ExecContext(ctx, "UPDATE lists.t SET doc = JSON_SET(doc, '$.name', :name)", sql.Named("name", name))
+		return err
+	}
+	check(t, set("b"))
+	before, err := strconv.Atoi(query(asked.QueryContext).one(t, received, 0).(string))
+	check(t, err)
+	if err := set([]any{"x", "$.role", "admin"}); codeOf(err) != mysqlparams.CodeUnbracketed {
+		t.Error(err)
+	}
+	if found := query(asked.QueryContext).one(t, received, before); found != "1" {
+		t.Error(found, "texts were sent, this one too")
+	}
+	if found := over(db).one(t, "SELECT doc FROM lists.t"); found != `{"name": "b", "role": "user"}` {
+		t.Error(found)
+	}
+	_, err = mysqlparams.ExecContext(ctx, db, "INSERT INTO lists.t VALUES ?", [][]any{{2, "{}"}, {3, "{}"}})
+	check(t, err)
+	in, ids := mysqlparams.In([]int{3, 1, 2}), []int{1, 2, 3}
+	const inOrder = "SELECT GROUP_CONCAT(id ORDER BY FIELD(id, :in)) FROM lists.t WHERE id IN ( /* c */ :ids )"
+	if found := over(db).one(t, inOrder, sql.Named("in", in), sql.Named("ids", ids)); found != "3,1,2" {
+		t.Error(found)
+	}
+	if found := over(db).one(t, "SELECT COALESCE(?)", mysqlparams.In([]any{nil, 7})); found != "7" {
 		t.Error(found)
 	}
 }

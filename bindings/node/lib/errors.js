@@ -9,7 +9,7 @@ const { messageOf } = require('./messages.js')
 const KINDS = Object.freeze([
   'DONE', 'OUT_OF_MEMORY', 'ROOM', 'FORM_END', 'FORM_LENGTH_LEAD', 'FORM_TYPE', 'FORM_MIXED', 'FORM_REPEATED', 'MIXED',
   'MISSING', 'NAMED_FOR_POSITIONAL', 'POSITIONAL_FOR_NAMED', 'MARK_COUNT', 'NOT_ALONE', 'FLOAT', 'UNSTEADY', 'UNPORTABLE',
-  'FAULT', 'BACKSLASH', 'UNSTEADY_FRAGMENT', 'OTHER_TABLE'
+  'FAULT', 'BACKSLASH', 'UNSTEADY_FRAGMENT', 'OTHER_TABLE', 'UNBRACKETED'
 ])
 
 /** C's names of what is wrong with a fragment, by their numbers. */
@@ -46,11 +46,12 @@ const FIELDS = {
   16: ['position', 'construct'],
   17: ['place', 'fault', 'inRow', 'item', 'placeName'],
   18: ['position'],
-  19: ['place', 'placeName']
+  19: ['place', 'placeName'],
+  21: ['place', 'position', 'placeName']
 }
 
 /** The numbers that tell the name of their place, which is looked up in the query. */
-const NAMED = [14, 17, 19]
+const NAMED = [14, 17, 19, 21]
 
 /** A refusal: `code` tells its kind, as `kind` does. Numbers of places and bytes begin at 0. */
 class BindError extends Error {

@@ -3,7 +3,7 @@
 
 const { isDate, isMap, isUint8Array } = require('node:util/types')
 const { isGone, lengthOf, viewOf } = require('./bytes.js')
-const { digitsOf, numberOf, pairsOf, partsOf, wordOf } = require('./fragments.js')
+const { digitsOf, itemsOf, numberOf, pairsOf, partsOf, wordOf } = require('./fragments.js')
 const dates = require('./dates.js')
 const { otherOf } = require('./objects.js')
 const { assignedRefusal, itemRefusal, nameRefusal, rowRefusal, valueRefusal } = require('./refused.js')
@@ -21,6 +21,9 @@ const QUALIFIED = 132
 const KEYWORD = 133
 const IDENTIFIERS = 134
 const ASSIGNMENTS = 135
+// Of an array that no In says to be several values: the archive judges its place.
+const IMPLICIT_LIST = 136
+const IMPLICIT_ROWS = 137
 const VAR_STRING = 253
 const UNSIGNED = 128
 
@@ -332,8 +335,8 @@ function writeCount(form, count) {
   form.len += 4
 }
 
-function writeList(form, items, place) {
-  form.type(LIST, 0)
+function writeList(form, type, items, place) {
+  form.type(type, 0)
   const count = countOf(items)
   writeCount(form, count)
   for (let i = 0; i < count; i++) {
@@ -342,8 +345,8 @@ function writeList(form, items, place) {
   }
 }
 
-function writeRows(form, rows, place) {
-  form.type(ROWS, 0)
+function writeRows(form, type, rows, place) {
+  form.type(type, 0)
   const count = countOf(rows)
   writeCount(form, count)
   for (let i = 0; i < count; i++) {
@@ -405,16 +408,27 @@ function writeKeyword(form, word) {
 /** Appends an array: a list, or rows or identifiers, as its first item says. */
 function writeArray(form, items, place) {
   const first = items.length > 0 ? items[0] : undefined
-  if (Array.isArray(first)) writeRows(form, items, place)
+  if (Array.isArray(first)) writeRows(form, IMPLICIT_ROWS, items, place)
   else if (isIdentifier(first)) writeIdentifiers(form, items, place)
-  else writeList(form, items, place)
+  else writeList(form, IMPLICIT_LIST, items, place)
 }
 
-/** Appends what is more than a value, and no item: an array, an identifier, assignments, a keyword. False of any other. */
+/** Appends what an In holds: a list, or rows, as its first item says. */
+function writeIn(form, items, place) {
+  if (Array.isArray(items[0])) writeRows(form, ROWS, items, place)
+  else writeList(form, LIST, items, place)
+}
+
+/** Appends what is more than a value: an array, an In, an identifier, assignments, a keyword. False of what may be an item. */
 function writeFragment(form, value, place) {
   if (form.len + 8 > form.size) form.grow(8)
   if (Array.isArray(value)) {
     writeArray(form, value, place)
+    return true
+  }
+  const items = itemsOf(value)
+  if (items !== undefined) {
+    writeIn(form, items, place)
     return true
   }
   const parts = partsOf(value)

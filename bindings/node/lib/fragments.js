@@ -1,11 +1,12 @@
 'use strict'
-// What stands in a place beside the values of JavaScript: exact numbers, doubles, identifiers, assignments and keywords.
+// What stands in a place beside the values of JavaScript: exact numbers, doubles, several values, identifiers, assignments and
+// keywords.
 
 const { isMap } = require('node:util/types')
 const { otherOf } = require('./objects.js')
 
 // Each reads the field of a value of its class, which nothing else has; undefined of any other object.
-let digitsOf, numberOf, pairsOf, partsOf, wordOf
+let digitsOf, itemsOf, numberOf, pairsOf, partsOf, wordOf
 
 /** An exact number of its digits, as `new Decimal('9.99')`: it is written bare, so that a server computes it exactly. */
 class Decimal {
@@ -47,6 +48,34 @@ class Double {
 
   static {
     numberOf = (value) => (#number in value ? value.#number : undefined)
+  }
+}
+
+/** An item of an In, of which a row can't be changed. */
+function heldOf(item) {
+  return Array.isArray(item) ? Object.freeze(Array.from(item)) : item
+}
+
+/**
+ * Several values, where a server may take one too: `COALESCE(?)` of `new In([1, 2])` is `COALESCE(1, 2)`. It holds a list or
+ * rows. An array stands alone in brackets, as in `IN (?)`: elsewhere it is refused, since one in the JSON of a request would
+ * become several arguments. So don't make an In of a value from outside without looking at it.
+ */
+class In {
+  #items
+
+  constructor(items) {
+    if (!Array.isArray(items)) throw new TypeError('an In is made of an array: of values, or of rows')
+    this.#items = Object.freeze(Array.from(items, heldOf))
+  }
+
+  /** The items of the list, or the rows. */
+  get items() {
+    return this.#items
+  }
+
+  static {
+    itemsOf = (value) => (#items in value ? value.#items : undefined)
   }
 }
 
@@ -155,4 +184,18 @@ class Keyword {
   }
 }
 
-module.exports = { Assignments, Decimal, Double, Identifier, KEYWORDS, Keyword, digitsOf, numberOf, pairsOf, partsOf, wordOf }
+module.exports = {
+  Assignments,
+  Decimal,
+  Double,
+  Identifier,
+  In,
+  KEYWORDS,
+  Keyword,
+  digitsOf,
+  itemsOf,
+  numberOf,
+  pairsOf,
+  partsOf,
+  wordOf
+}

@@ -40,6 +40,13 @@ function placeOf({ place, placeName }) {
   return placeName === undefined ? `place ${place}` : `\`:${show(placeName)}\``
 }
 
+/** What a message says of an array in a place that takes one value, and what to write instead. */
+function ofUnbracketed({ position, placeName }) {
+  const place = placeName === undefined ? '?' : `:${show(placeName)}`
+  const shown = placeName === undefined ? `\`?\` at byte ${position}` : `\`${place}\``
+  return `${shown} is one value here, and was given a list: write it alone in brackets, as \`IN (${place})\`, or give new In([..])`
+}
+
 /** What is wrong with a list, rows, a name or a keyword, by the kinds of faults. */
 const OF_FAULTS = {
   EMPTY: (fields) => `The list for ${placeOf(fields)} is empty`,
@@ -64,6 +71,7 @@ const OF_KINDS = {
   POSITIONAL_FOR_NAMED: () => 'The query has names: give the values by name, as { id: 42 }',
   MARK_COUNT: ({ marks, values }) => `The query has ${counted(marks, 'mark')} (\`?\`) for ${counted(values, 'value')}`,
   NOT_ALONE: ofNeighbour,
+  UNBRACKETED: ofUnbracketed,
   FLOAT: (fields) => `A float for ${placeOf(fields)} can't be written: give null for NaN and infinities, else a text`,
   UNSTEADY: ({ position }) => `Byte ${position} of the query is a backslash or isn't ASCII: bind takes the query, and ` +
     'bindInBothModes does if no string has a backslash',

@@ -3,7 +3,7 @@
 
 const { isAnyArrayBuffer, isBoxedPrimitive, isDate, isMap, isPromise } = require('node:util/types')
 const { isGoneArray } = require('./bytes.js')
-const { digitsOf, pairsOf, partsOf, wordOf } = require('./fragments.js')
+const { digitsOf, itemsOf, pairsOf, partsOf, wordOf } = require('./fragments.js')
 const dates = require('./dates.js')
 const { otherOf } = require('./objects.js')
 
@@ -34,6 +34,7 @@ const NO_UTF8 = 'a lone surrogate, which has no UTF-8'
 function kindOf(value) {
   if (partsOf(value) !== undefined) return 'an Identifier'
   if (pairsOf(value) !== undefined) return 'of type Assignments'
+  if (itemsOf(value) !== undefined) return 'an In'
   return wordOf(value) === undefined ? undefined : 'a Keyword'
 }
 

@@ -5,7 +5,7 @@ const assert = require('node:assert/strict')
 const { test } = require('node:test')
 const { mysqlParams } = require('./shared_cases.js')
 
-const { Assignments, BindError, Decimal, Identifier, Template, bind, bindAnywhere, bindInBothModes } = mysqlParams
+const { Assignments, BindError, Decimal, Identifier, In, Template, bind, bindAnywhere, bindInBothModes } = mysqlParams
 
 /** What a call gives, or what it throws, as one text. */
 function told(call) {
@@ -44,7 +44,8 @@ test('values by name in any order, and others', () => {
       { a: 1, b: 2 },
     { a: 1, b: 2, d: 3 }, {}, null, [1, 2, 3], new Map([['c', 3], ['a', 1], ['b', 2]]), Object.assign(Object.create(null),
       { a: 1, c: 3, b: 2 }),
-    { a: "it's", b: 'é', c: Buffer.from([255]) }, { a: [1, 'a'], b: [[1], [2]], c: new Identifier('x') }, { a: 0.5,
+    { a: "it's", b: 'é', c: Buffer.from([255]) }, { a: [1, 'a'], b: [[1], [2]], c: new Identifier('x') },
+    { a: new In([1, 'a']), b: new In([[1], [2]]), c: new Identifier('x') }, { a: 0.5,
       b: new Decimal('1.5'), c: 2n ** 70n },
     { a: [new Identifier('x'), new Identifier('t', 'y')], b: new Assignments({ b: 1 }), c: new Assignments([['b', "it's"]]) },
     { a: [new Identifier('x'), 1], b: 1, c: 2 }, { a: 1, b: new Assignments({}), c: [] }, { a: new Assignments({ b: [] }), b: 1,
@@ -61,10 +62,11 @@ test('queries of all kinds', () => {
     'SELECT :a, :a', 'SELECT ?, ?', 'SELECT 1', 'SELECT :a ?', '1:a', ':a1', "':a' :a", '[ :a', '/*! :a */ 1', "'\\' :a ' :b'",
       '"\\" :a', 'é :a', ':größe',
     ':A, :a', ':a:b', '-:a', '/:a*/ 1', '1e+:a', '1.:a', '$:a', 'lbl:LOOP', '\ufffd :a', '-- :b\n:a', '`:b` = :a', ':__proto__',
-      ':constructor', ':a IN (:b)'
+      ':constructor', ':a IN (:b)', 'VALUES :a', 'COALESCE(:a)'
   ]) {
     for (const params of [{ a: 1 }, { a: 'x', b: 'y' }, { A: 1, a: 2 }, [1], [1, 2], {}, undefined,
-      JSON.parse('{"__proto__": 1}'), { constructor: 1 }, { größe: 1 }]) {
+      JSON.parse('{"__proto__": 1}'), { constructor: 1 }, { größe: 1 },
+      { a: [1, 2] }, { a: [[1, 2]] }, { a: 1, b: [1, 2] }, { b: [1, 2], a: 1 }, { a: new In([1, 2]), b: 'y' }]) {
       same(query, params)
       same(query, params, { noBackslashEscape: true })
     }

@@ -7,7 +7,7 @@ const assert = require('node:assert/strict')
 const { test } = require('node:test')
 const { mysqlParams } = require('./shared_cases.js')
 
-const { Assignments, Decimal, Double, Identifier, Keyword, Template, bind, bindAnywhere, bindForm, bindInBothModes,
+const { Assignments, Decimal, Double, Identifier, In, Keyword, Template, bind, bindAnywhere, bindForm, bindInBothModes,
   bindRows } = mysqlParams
 
 const CALLS = Number(process.env.CALLS ?? 40000)
@@ -18,9 +18,9 @@ const MORE_RSS = 12 << 20
 const VALUES = [null, true, 7, 2n ** 63n, 0.5, "it's", 'é', Buffer.from([255]), new Date(0), new Decimal('1.5'), new Double(2),
   2n ** 70n]
 const NAMES = [new Identifier('a'), new Identifier('t', 'b')]
-const MORE = [...VALUES, [1, 'a', null], [[1, 2], [3, 'é']], NAMES[1], new Keyword('ASC', ['ASC']), NAMES,
+const MORE = [...VALUES, [1, 'a', null], [[1, 2], [3, 'é']], new In([1, 'a']), NAMES[1], new Keyword('ASC', ['ASC']), NAMES,
   new Assignments([['a', "it's"], [NAMES[1], 2n ** 70n]])]
-const MARKS = MORE.map(() => '?').join()
+const MARKS = MORE.map(() => 'IN (?)').join()
 const UTC = { timezone: 'Z' }
 const NAMED = { a: 1, b: "it's" }
 const LONG = 'x'.repeat(1 << 17)
@@ -36,7 +36,7 @@ const ANSWERS = {
   assignments: () => bind('SET :set', { set: new Assignments({ a: 1, b: 'é', c: null }) }),
   bytes: () => bind(Buffer.from('?'), [1]),
   form: () => bindForm('?', form('000600')),
-  template: () => TEMPLATE.bind({ a: [1, 2] }),
+  template: () => TEMPLATE.bind({ a: new In([1, 2]) }),
   'new template': () => new Template('?, ?').bindForm(form('000600000600')),
   rows: () => bindRows('?, ?', [[1, 'a'], [0.5, null], [3, 'b']]),
   'names of a query': () => mysqlParams.names(':a, :b'),
@@ -59,9 +59,10 @@ const REFUSALS = {
   14: () => bind(':a', { a: NaN }),
   15: () => bindAnywhere('ä?', [1]),
   16: () => bindAnywhere('[?', [1]),
-  17: () => bind(':a', { a: [] }),
+  17: () => bind('IN (:a)', { a: [] }),
   18: () => bindInBothModes("'\\\\' ?", [1]),
   19: () => bindAnywhere('?', [new Identifier('ä')]),
+  21: () => bind('?', [[1, 2]]),
   value: () => bind('?', [{ a: 1 }]),
   item: () => bind('?', [[1, undefined]]),
   'item of identifiers': () => bind('?', [[NAMES[0], 1]]),
@@ -137,6 +138,6 @@ test(`long calls, up to ${CALLS / 100} times each`, { skip }, async () => {
 
 test('each refusal is here', () => {
   // All numbers except those of memory, of a room, and of another table.
-  const all = Array.from({ length: 17 }, (_, i) => String(i + 3))
+  const all = [...Array.from({ length: 17 }, (_, i) => String(i + 3)), '21']
   assert.deepEqual(Object.keys(REFUSALS).filter((name) => /^\d/.test(name)), all)
 })

@@ -5,10 +5,15 @@ const assert = require('node:assert/strict')
 const { test } = require('node:test')
 const { mysqlParams } = require('./shared_cases.js')
 
-const { Assignments, BindError, Decimal, Identifier, Keyword, bind, bindAnywhere, bindForm, bindInBothModes } = mysqlParams
+const { Assignments, BindError, Decimal, Identifier, In, Keyword, bind, bindAnywhere, bindForm, bindInBothModes } = mysqlParams
 
 const ALPHABET = 'names are of ASCII letters, digits and _, so'
 const SPACE = 'put a space between'
+
+/** What a message says of an array for this place. */
+function unbracketed(shown, place) {
+  return `${shown} is one value here, and was given a list: write it alone in brackets, as \`IN (${place})\`, or give new In([..])`
+}
 
 const MESSAGES = [
   [() => bindForm(':a', Buffer.from('0161060001610600', 'hex')), 'FORM_REPEATED', 'The form gives `:a` twice'],
@@ -36,6 +41,10 @@ const MESSAGES = [
     '`:t` at byte 0 touches `.`: for a name with a point write one place, and give an Identifier of two names'],
   [() => bind('SELECT :größe', { gr: 1 }), 'NOT_ALONE',
     `\`:gr\` at byte 7 touches \`\\xc3\`: ${ALPHABET} \`:gr\\xc3\\xb6\\xc3\\x9fe\` ends after \`gr\``],
+  [() => bind("JSON_SET(doc, '$.name', :name)", { name: ['x', '$.role', 'admin'] }), 'UNBRACKETED',
+    unbracketed('`:name`', ':name')],
+  [() => bind('SELECT é, COALESCE(?, owner)', [[1, 2]]), 'UNBRACKETED', unbracketed('`?` at byte 20', '?')],
+  [() => bindAnywhere('LIMIT ?', [[[1, 2]]]), 'UNBRACKETED', unbracketed('`?` at byte 6', '?')],
   [() => bind(':a', { a: NaN }), 'FLOAT',
     "A float for `:a` can't be written: give null for NaN and infinities, else a text"],
   [() => bind('?, (?)', [1, [2, Infinity]]), 'FLOAT',
@@ -48,11 +57,12 @@ const MESSAGES = [
   [() => bindAnywhere('SELECT [a', []), 'UNPORTABLE',
     'Not portable at byte 7 of the query: `[` may open an identifier: write the name in backquotes'],
   [() => bind('id IN (:ids)', { ids: [] }), 'FAULT', 'The list for `:ids` is empty'],
-  [() => bind('?, ?', [1, []]), 'FAULT', 'The list for place 1 is empty'],
+  [() => bind('?, (?)', [1, []]), 'FAULT', 'The list for place 1 is empty'],
+  [() => bind('?, ?', [1, new In([])]), 'FAULT', 'The list for place 1 is empty'],
   [() => bind('SET :set', { set: new Assignments({}) }), 'FAULT', 'The list for `:set` is empty'],
-  [() => bind(':rows', { rows: [[1], []] }), 'FAULT', 'The value of `:rows` has an empty row 1'],
-  [() => bind('?', [[[1], [1, 2]]]), 'FAULT', "The value for place 0 has a row 1 that isn't as long as the first"],
-  [() => bind(':a', { a: [[1, 2], [3, new Decimal('x')]] }), 'FAULT',
+  [() => bind('VALUES :rows', { rows: [[1], []] }), 'FAULT', 'The value of `:rows` has an empty row 1'],
+  [() => bind('VALUES ?', [[[1], [1, 2]]]), 'FAULT', "The value for place 0 has a row 1 that isn't as long as the first"],
+  [() => bind('IN (:a)', { a: [[1, 2], [3, new Decimal('x')]] }), 'FAULT',
     'The value of `:a` has an item 1 of row 1 that is no exact number'],
   [() => bind('?', [new Identifier('a', '')]), 'FAULT', 'The value for place 0 has an empty name 1'],
   [() => bind('?', [new Identifier('a\0')]), 'FAULT', 'The value for place 0 has a name 0 with a byte 0'],

@@ -88,7 +88,7 @@ function rowsOf(head, text) {
 
 /** The value of an example, which may name the classes of the package. */
 function valueOf(text) {
-  const program = `({ Assignments, Decimal, Double, Identifier, Keyword }) => (${text})`
+  const program = `({ Assignments, Decimal, Double, Identifier, In, Keyword }) => (${text})`
   return vm.runInThisContext(program)(mysqlParams)
 }
 
@@ -139,6 +139,7 @@ test('the types say when each kind comes, and have those of the header', () => {
 test('what node-mysql does there', { skip: driverWhy ?? false }, () => {
   const { format } = require('mysql')
   assert.equal(format('password = ?', [{ password: 1 }]), 'password = `password` = 1')
+  assert.equal(format("JSON_SET(doc, '$.a', ?)", [['x', '$.b', 'y']]), "JSON_SET(doc, '$.a', 'x', '$.b', 'y')")
   assert.equal(format('?, ?', [undefined, NaN]), 'NULL, NaN')
   assert.equal(format("'?' /* ? */", [1, 2]), "'1' /* 2 */")
   assert.equal(format('SET ?', [{ a: 1, b: 'x' }]), "SET `a` = 1, `b` = 'x'")

@@ -5,7 +5,7 @@ const assert = require('node:assert/strict')
 const { test } = require('node:test')
 const { mysqlParams } = require('./shared_cases.js')
 
-const { Assignments, Identifier, Template, bind, bindAnywhere, bindForm, bindInBothModes, bindRows, firstUnportable,
+const { Assignments, Identifier, In, Template, bind, bindAnywhere, bindForm, bindInBothModes, bindRows, firstUnportable,
   names } = mysqlParams
 
 const LONG = 'x'.repeat(1 << 17)
@@ -21,11 +21,11 @@ const CALLS = {
   'long query of bytes': () => bind(Buffer.from(`/*${LONG}*/ ?`), [1]),
   anywhere: () => bindAnywhere('SELECT :A, :b', { A: 'é', b: LONG }),
   'both modes': () => bindInBothModes('SELECT :A', { A: LONG }),
-  fragments: () => bind('? ? ?', [[1, 'a', 2n ** 70n], [[1, LONG], [2, 'b']], new Identifier('a', 'b')]),
+  fragments: () => bind('IN (?), (?), ?', [[1, 'a', 2n ** 70n], [[1, LONG], [2, 'b']], new Identifier('a', 'b')]),
   columns: () => bind('(:a) :b', { a: [new Identifier('a'), new Identifier('t', 'b')],
     b: new Assignments({ a: LONG, b: 1.5 }) }),
   form: () => bindForm('?', Buffer.from('000600', 'hex')),
-  rows: () => bindRows(':a, :B', [{ a: 1, B: 'x' }, { a: LONG, B: null }, { a: 0.5, B: [1] }]),
+  rows: () => bindRows(':a, :B', [{ a: 1, B: 'x' }, { a: LONG, B: null }, { a: 0.5, B: new In([1]) }]),
   template: () => made.bind({ a: 1, B: LONG }),
   'new template': () => new Template('SELECT :a, :B').bind({ a: 1, B: 2 }),
   names: () => names('SELECT :A, :b').names,

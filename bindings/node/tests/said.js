@@ -40,6 +40,8 @@ const SAID = [
     `A string of the query has a backslash at byte ${byte}: bind takes the query`],
   [`Fragment ${PLACE} has a name with a backslash or a byte that is not ASCII${VALUE}`, (place, name) =>
     `${theValue(place, name)} has a name with a backslash or a letter outside ASCII: bind takes it`],
+  ['(.* is one value here, and was given a list: .*, or) say by type 129 or 130 that several are meant',
+    (what) => `${what} give new In([..])`],
   [`Fragment ${PLACE} can't be written: it is empty${VALUE}`, (place, name) => `The list for ${thePlace(place, name)} is empty`],
   [`Fragment ${PLACE} can't be written: it is none of the keywords .*?${VALUE}`, (place, name) =>
     `${theValue(place, name)} is none of KEYWORDS`],

@@ -7,7 +7,7 @@ const { promisify } = require('node:util')
 const { mysqlParams } = require('./shared_cases.js')
 const server = require('./server.js')
 
-const { Assignments, BindError, Decimal, Double, Identifier, Keyword, SessionError, askAgain, bindAnywhere, execute,
+const { Assignments, BindError, Decimal, Double, Identifier, In, Keyword, SessionError, askAgain, bindAnywhere, execute,
   query } = mysqlParams
 
 let mysql
@@ -320,6 +320,42 @@ test('refusals send nothing', { skip }, async () => {
   assert.equal(row.length, packet - 100)
   const [[steady]] = await query(connection, 'SELECT 1 AS "é", ? AS a', ['ü'])
   assert.deepEqual({ ...steady }, { é: 1, a: 'ü' })
+})
+
+test('an array in the place of a value is refused before anything is sent', { skip }, async () => {
+  const connection = connect({ database: 'd' })
+  await plain(connection, 'CREATE TABLE people (id INT PRIMARY KEY, doc TEXT)')
+  const rows = [[1, '{"name": "a", "role": "user"}'], [2, '{"name": "b", "role": "user"}']]
+  await execute(connection, 'INSERT INTO people VALUES :rows', { rows })
+  const rename = "UPDATE people SET doc = JSON_SET(doc, '$.name', :name) WHERE id = :id"
+  const before = await asked(connection)
+  for (const [sql, params] of [[rename, { name: ['x', '$.role', 'admin'], id: 1 }],
+    ['SELECT COALESCE(:a, doc) FROM people', { a: [1] }],
+    ['SELECT id FROM people ORDER BY FIELD(id, :a)', { a: [2, 1] }], ['SELECT id FROM people LIMIT :a', { a: [0, 1] }],
+    ['SELECT id FROM people WHERE id IN (0, :a)', { a: [1] }], ['INSERT INTO people VALUES (3, :a)', { a: ['x', 'y'] }]]) {
+    for (let i = 0; i < 3; i++) await assert.rejects(query(connection, sql, params), { name: 'BindError', kind: 'UNBRACKETED' })
+    await assert.rejects(execute(connection, sql, params), { kind: 'UNBRACKETED', placeName: 'name' in params ? 'name' : 'a' })
+  }
+  assert.equal(await asked(connection) - before, 1)
+  await execute(connection, rename, { name: "it's", id: 1 })
+  const [[found]] = await query(connection, 'SELECT doc FROM people WHERE id = 1')
+  assert.deepEqual(JSON.parse(found.doc), { name: "it's", role: 'user' })
+})
+
+test('several values where they may stand', { skip }, async () => {
+  const connection = connect({ database: 'd' })
+  await plain(connection, 'CREATE TABLE several (id INT PRIMARY KEY, name VARCHAR(20))')
+  await execute(connection, 'INSERT INTO several VALUES :rows', { rows: [[1, 'a'], [2, 'b']] })
+  await execute(connection, 'INSERT INTO several VALUES (:row), (4, :name)', { row: [3, 'c'], name: 'd' })
+  const idsOf = async (sql, params) => (await query(connection, sql, params))[0].map(({ id }) => id)
+  assert.deepEqual(await idsOf('SELECT id FROM several WHERE id IN ( /* c */ :ids ) ORDER BY id', { ids: [1, 3] }), [1, 3])
+  assert.deepEqual(await idsOf('SELECT id FROM several WHERE id NOT IN (?) ORDER BY id', [[1, 3]]), [2, 4])
+  assert.deepEqual(await idsOf('SELECT id FROM several WHERE (id, name) IN (?) ORDER BY id', [[[2, 'b'], [4, 'x']]]), [2])
+  assert.deepEqual(await idsOf('SELECT id FROM several WHERE (id, name) = (?)', [[4, 'd']]), [4])
+  assert.deepEqual(await idsOf('SELECT id FROM several ORDER BY FIELD(id, :ids)', { ids: new In([3, 1, 4, 2]) }), [3, 1, 4, 2])
+  const [[row]] = await query(connection, 'SELECT COALESCE(?) AS a, CONCAT_WS(?) AS b',
+    [new In([null, "it's"]), new In(['-', 1, 2])])
+  assert.deepEqual({ ...row }, { a: "it's", b: '1-2' })
 })
 
 test('what the driver itself would read in a text is refused', { skip }, async () => {

@@ -27,6 +27,7 @@ const FIELDS = {
   FLOAT: { place: 'place', placeName: 'of' },
   UNSTEADY: { position: 'position' },
   UNPORTABLE: { position: 'position', construct: 'byte' },
+  UNBRACKETED: { place: 'place', position: 'position', placeName: 'of' },
   FAULT: { place: 'place', fault: 'byte', inRow: 'position', item: 'values', placeName: 'of' },
   BACKSLASH: { position: 'position' },
   UNSTEADY_FRAGMENT: { place: 'place', placeName: 'of' }
@@ -95,6 +96,16 @@ function numberOf(text) {
   return { nan: NaN, inf: Infinity, '-inf': -Infinity }[text] ?? Number(text)
 }
 
+/** The items of a list. */
+function listOf(text) {
+  return text === '' ? [] : text.split('|').map(valueOf)
+}
+
+/** The rows of which two bars stand between each and the next. */
+function rowsOf(text) {
+  return text.split('||').map((row) => row.split('|').map(valueOf))
+}
+
 /** The value of a parameter as JavaScript has it. A whole double is a Double, since a whole number is bound as one. */
 function valueOf(text) {
   const at = text.indexOf(':')
@@ -108,11 +119,14 @@ function valueOf(text) {
     case 'i':
     case 'u': return Number.isSafeInteger(Number(rest)) ? Number(rest) : BigInt(rest)
     case 'd': return new mysqlParams.Decimal(rest)
-    case 'list': return rest === '' ? [] : rest.split('|').map(valueOf)
-    case 'rows': return rest.split('||').map((row) => row.split('|').map(valueOf))
+    case 'list': return new mysqlParams.In(listOf(rest))
+    case 'rows': return new mysqlParams.In(rowsOf(rest))
+    case 'implicit_list': return listOf(rest)
+    case 'implicit_rows': return rowsOf(rest)
     case 'identifier':
     case 'qualified': return identifierOf(rest)
-    case 'identifiers': return severalOf(rest, identifierOf)
+    // No array says that it would have held identifiers.
+    case 'identifiers': return rest === '' ? new mysqlParams.In([]) : severalOf(rest, identifierOf)
     case 'assignments': return new mysqlParams.Assignments(severalOf(rest, pairOf))
     case 'keyword': return new mysqlParams.Keyword(rest, [rest, 'ASC'])
     case 'date': return dateOf(rest.split(' ').map(Number))
@@ -188,21 +202,28 @@ function stringOf(bytes) {
   return Buffer.concat([Buffer.from(head), bytes])
 }
 
-/** The flat form of parameters that are values of a form, numbers, texts or null. */
+/** Type, flags and bytes of a value of a form, a number, a text, null, or a list of these. */
+function formedOf(value) {
+  if (value instanceof FormValue) return value.bytes
+  if (value === null) return Buffer.from([6, 0])
+  if (value instanceof mysqlParams.In) {
+    const head = Buffer.from([129, 0, 0, 0, 0, 0])
+    head.writeUInt32LE(value.items.length, 2)
+    return Buffer.concat([head, ...value.items.map(formedOf)])
+  }
+  if (typeof value !== 'number' && typeof value !== 'bigint') {
+    return Buffer.concat([Buffer.from([253, 0]), stringOf(Buffer.from(value))])
+  }
+  const bytes = Buffer.alloc(10)
+  bytes[0] = 8
+  bytes[1] = value > 2n ** 63n ? 128 : 0
+  bytes.writeBigInt64LE(BigInt.asIntN(64, BigInt(value)), 2)
+  return bytes
+}
+
+/** The flat form of parameters that formedOf takes. */
 function formOf(params) {
-  const parts = params.map(([name, value]) => {
-    let bytes
-    if (value instanceof FormValue) bytes = value.bytes
-    else if (value === null) bytes = Buffer.from([6, 0])
-    else if (typeof value === 'number' || typeof value === 'bigint') {
-      bytes = Buffer.alloc(10)
-      bytes[0] = 8
-      bytes[1] = value > 2n ** 63n ? 128 : 0
-      bytes.writeBigInt64LE(BigInt.asIntN(64, BigInt(value)), 2)
-    } else bytes = Buffer.concat([Buffer.from([253, 0]), stringOf(Buffer.from(value))])
-    return Buffer.concat([stringOf(Buffer.from(name)), bytes])
-  })
-  return Buffer.concat(parts)
+  return Buffer.concat(params.flatMap(([name, value]) => [stringOf(Buffer.from(name)), formedOf(value)]))
 }
 
 function casesOf(file) {

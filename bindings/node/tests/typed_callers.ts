@@ -1,6 +1,6 @@
 // Callers that TypeScript has to take, and those that it has to refuse.
 import mysqlParams = require('mysql-params')
-import { Assignments, BindError, Decimal, Double, Identifier, Keyword, SessionError, Template, bind, bindAnywhere,
+import { Assignments, BindError, Decimal, Double, Identifier, In, Keyword, SessionError, Template, bind, bindAnywhere,
   bindInBothModes } from 'mysql-params'
 import { type Code, askAgain, bindRows, execute, firstUnportable, names, query } from 'mysql-params'
 
@@ -11,6 +11,7 @@ const named: string = bindAnywhere('SELECT :a', { a: 'x', b: null, c: 1n, d: tru
 const mapped: string = bind(':a', new Map([['a', 1]]))
 const lists: string = bind('? ? ? ?', [[1, 'a', new Decimal('1.5')], [[1, 'a'], [2, 'b']], new Identifier('a', 'b'),
   new Keyword('ASC', ['ASC'])])
+const several: string = bind('COALESCE(?), ?', [new In([1, 'a', new Decimal('1.5')]), new In([[1, 'a'], [2, 'b']])])
 const column = new Identifier('t', 'b')
 const columns: string = bind('INSERT INTO t (?) VALUES ?', [[new Identifier('a'), column], [[1, 'x']]])
 const assigned = new Assignments({ a: 1, b: 'x', c: null, d: new Decimal('1.5'), e: new Date(), f: Buffer.from('x') })
@@ -53,6 +54,14 @@ bind('?', [{ password: 1 }])
 // @ts-expect-error
 bind('?', [[new Identifier('a'), 1]])
 // @ts-expect-error
+new In(1)
+// @ts-expect-error
+new In([new In([1])])
+// @ts-expect-error
+bind('?', [[new In([1])]])
+// @ts-expect-error
+bindInBothModes('?', [new In([1])])
+// @ts-expect-error
 new Assignments({ a: undefined })
 // @ts-expect-error
 new Assignments({ a: [1] })
@@ -85,5 +94,5 @@ new Identifier()
 // @ts-expect-error
 query({}, 'SELECT 1')
 
-void [columns, changed, ofMap, first]
+void [several, columns, changed, ofMap, first]
 void [text, bytes, named, mapped, lists, plain, rows, template, ofBytes, found, construct, all, sent]

@@ -8,7 +8,7 @@ const { inspect } = require('node:util')
 const vm = require('node:vm')
 const { mysqlParams } = require('./shared_cases.js')
 
-const { Assignments, BindError, Decimal, Double, Identifier, Keyword, KEYWORDS, bind, bindAnywhere, bindInBothModes,
+const { Assignments, BindError, Decimal, Double, Identifier, In, Keyword, KEYWORDS, bind, bindAnywhere, bindInBothModes,
   bindRows } = mysqlParams
 
 /** The literal of a value. */
@@ -51,7 +51,7 @@ test('numbers that are whole', () => {
   for (const number of [0, 1, -1, 127, 128, 255, 256, 2 ** 31 - 1, 2 ** 31, -(2 ** 31), -(2 ** 31) - 1, 2 ** 32, 2 ** 53 - 1,
     1 - 2 ** 53]) {
     assert.equal(literal(number), String(number))
-    assert.equal(bind('(?)', [[number, number]]), `(${number}, ${number})`)
+    assert.equal(bind('IN (?)', [[number, number]]), `IN (${number}, ${number})`)
     assert.equal(bindAnywhere(':a', { a: number }), String(number))
     assert.equal(bindInBothModes('?', [number]), String(number))
   }
@@ -68,16 +68,16 @@ test('numbers that are not whole are doubles', () => {
   assert.equal(literal(new Double(2)), '2.0e0')
   assert.equal(literal(new Double(-0)), '-0.0e0')
   assert.equal(literal(new Double(1e300)), '1e300')
-  assert.equal(bind('?', [[new Double(1e16)]]), '1e16')
+  assert.equal(bind('IN (?)', [[new Double(1e16)]]), 'IN (1e16)')
   assert.equal(new Double(0.5).number, 0.5)
   for (const other of ['1', 1n, null, undefined]) assert.throws(() => new Double(other), TypeError)
 })
 
 test('numbers that none can say', () => {
   for (const number of [NaN, Infinity, -Infinity]) {
-    for (const given of [number, new Double(number), [number], [[number]]]) {
+    for (const given of [number, new Double(number), [number], [[number]], new In([number]), new In([[number]])]) {
       for (const call of [bind, bindAnywhere]) {
-        assert.throws(() => call(':a', { a: given }), (error) => {
+        assert.throws(() => call('IN (:a)', { a: given }), (error) => {
           assert.ok(error instanceof BindError)
           assert.deepEqual([error.number, error.kind, error.place, error.placeName], [14, 'FLOAT', 0, 'a'])
           return error.message === "A float for `:a` can't be written: give null for NaN and infinities, else a text"
@@ -97,7 +97,7 @@ test('bigints', () => {
   assert.equal(bindInBothModes('?', [2n ** 64n - 1n]), '18446744073709551615')
   for (const number of [2n ** 64n, -(2n ** 63n) - 1n, 10n ** 65n - 1n, 1n - 10n ** 65n]) {
     assert.equal(literal(number), String(number))
-    assert.equal(bindAnywhere('(?)', [[number, 1n]]), `(${number}, 1)`)
+    assert.equal(bindAnywhere('IN (?)', [[number, 1n]]), `IN (${number}, 1)`)
   }
   const many = 'has more than 65 digits, of which servers keep no more'
   for (const number of [10n ** 65n, -(10n ** 65n), 2n ** 255n, 2n ** 100000n]) refusedEverywhere(number, RangeError, many)
@@ -106,7 +106,7 @@ test('bigints', () => {
 test('exact numbers', () => {
   assert.equal(literal(new Decimal('9.99')), '9.99')
   assert.equal(literal(new Decimal(123n)), '123')
-  assert.equal(bindAnywhere('(?)', [[new Decimal('-0.10'), 1]]), '(-0.10, 1)')
+  assert.equal(bindAnywhere('IN (?)', [[new Decimal('-0.10'), 1]]), 'IN (-0.10, 1)')
   assert.equal(String(new Decimal('1.50')), '1.50')
   assert.equal(new Decimal('1.50').digits, '1.50')
   assert.equal(literal(new Decimal(`${'1'.repeat(35)}.${'2'.repeat(30)}`)), `${'1'.repeat(35)}.${'2'.repeat(30)}`)
@@ -264,7 +264,7 @@ test('memory that another thread makes longer', (t) => {
 
 test('null and booleans', () => {
   assert.equal(bind('?, ?, ?', [null, true, false]), 'NULL, 1, 0')
-  assert.equal(bindAnywhere('?', [[null, true]]), 'NULL, 1')
+  assert.equal(bindAnywhere('IN (?)', [[null, true]]), 'IN (NULL, 1)')
 })
 
 test('dates by the clock of a time zone', () => {
@@ -272,7 +272,7 @@ test('dates by the clock of a time zone', () => {
   assert.equal(literal(date, { timezone: 'Z' }), "'2019-11-27 12:30:05.007000'")
   assert.equal(literal(date, { timezone: '+02:00' }), "'2019-11-27 14:30:05.007000'")
   assert.equal(literal(date, { timezone: '-13:30' }), "'2019-11-26 23:00:05.007000'")
-  assert.equal(bindAnywhere('(?)', [[date]], { timezone: '+00:00' }), "('2019-11-27 12:30:05.007000')")
+  assert.equal(bindAnywhere('IN (?)', [[date]], { timezone: '+00:00' }), "IN ('2019-11-27 12:30:05.007000')")
   assert.deepEqual(bindRows('?', [[date]], { timezone: 'Z' }), ["'2019-11-27 12:30:05.007000'"])
   assert.equal(new mysqlParams.Template('?').bind([date], { timezone: 'Z' }), "'2019-11-27 12:30:05.007000'")
   const local = new Date(2019, 10, 27, 12, 30)
@@ -322,9 +322,12 @@ test('lists and rows', () => {
   assert.equal(bind('VALUES ?', [[[1, 'a'], [2, 'b']]]), "VALUES (1, 'a'), (2, 'b')")
   assert.equal(bindAnywhere('VALUES :rows', { rows: [[1, 'a']] }), "VALUES (1, _utf8mb4'a')")
   const fault = (value, name, inRow = 0) => {
-    assert.throws(() => bind(':a', { a: value }), { name: 'BindError', number: 17, kind: 'FAULT', fault: name, inRow,
-      placeName: 'a' })
-    assert.throws(() => bindAnywhere('?', [value]), { name: 'BindError', number: 17, fault: name, inRow, placeName: undefined })
+    for (const [query, given] of [['IN (:a)', value], [':a', new In(value)]]) {
+      assert.throws(() => bind(query, { a: given }), { name: 'BindError', number: 17, kind: 'FAULT', fault: name, inRow,
+        placeName: 'a' })
+      assert.throws(() => bindAnywhere(query.replace(':a', '?'), [given]), { name: 'BindError', number: 17, fault: name, inRow,
+        placeName: undefined })
+    }
   }
   fault([], 'EMPTY')
   fault([[]], 'EMPTY_ROW')
@@ -372,7 +375,7 @@ test('identifiers and keywords', () => {
   refusedItem(new Keyword('ASC', ['ASC']), TypeError, 'is a Keyword, which is no value: write a place for it')
   // What only looks like one is an object.
   for (const like of [Object.create(Identifier.prototype), Object.create(Decimal.prototype),
-    Object.create(Keyword.prototype), Object.create(Assignments.prototype)]) {
+    Object.create(Keyword.prototype), Object.create(Assignments.prototype), Object.create(In.prototype)]) {
     assert.throws(() => bind('?', [like]), { name: 'TypeError', message: /is an object, which has no literal/ })
   }
 })
@@ -446,7 +449,8 @@ test('assignments that are refused', () => {
   const one = ': a column takes one value'
   for (const [value, said] of [
     [[1], `an array${one}`], [[], `an array${one}`], [new Identifier('t'), `an Identifier${one}`],
-    [new Keyword('NULL', ['NULL']), `a Keyword${one}`], [new Assignments({ b: 1 }), `of type Assignments${one}`],
+    [new Keyword('NULL', ['NULL']), `a Keyword${one}`], [new In([1]), `an In${one}`],
+    [new Assignments({ b: 1 }), `of type Assignments${one}`],
     [undefined, 'undefined: give null for NULL'],
     [{ b: 1 }, 'an object, which has no literal: give JSON.stringify(..) of it'],
     [() => 1, 'a function, which has no literal'],
@@ -541,7 +545,8 @@ test('both modes take only values', () => {
     [[1], TypeError, 'is an array, which stands in a place by itself: it is no value, and no item of a row'],
     [new Identifier('a'), TypeError, `is an Identifier, ${only}`],
     [new Assignments({ a: 1 }), TypeError, `is of type Assignments, ${only}`],
-    [new Keyword('ASC', ['ASC']), TypeError, `is a Keyword, ${only}`]
+    [new Keyword('ASC', ['ASC']), TypeError, `is a Keyword, ${only}`],
+    [new In([1]), TypeError, `is an In, ${only}`]
   ]
   for (const [value, Kind, said] of kinds) {
     assert.throws(() => bindInBothModes(':a', { a: value }), (error) => error.constructor === Kind &&
@@ -594,7 +599,7 @@ test('getters that bind', () => {
   assert.equal(bind(':a, :b, :c', params), "'first', 'SELECT \\'within\\'', 'last'")
   const shrinking = [1, 2, 3]
   Object.defineProperty(shrinking, 1, { get() { shrinking.length = 2; return 1 } })
-  assert.throws(() => bind('(?)', [shrinking]), /item 2 of the value for place 0 is undefined/)
+  assert.throws(() => bind('IN (?)', [shrinking]), /item 2 of the value for place 0 is undefined/)
 })
 
 test('arrays that say what is no count', () => {
@@ -603,7 +608,7 @@ test('arrays that say what is no count', () => {
   for (const [length, wanted] of [[1.5, 1], [2 ** 32 + 2, 2], ['1', 1], [2.999, 2], [{ valueOf: () => 1 }, 1], [true, 1]]) {
     const items = ['x', 'y', 'z']
     const list = items.slice(0, wanted).map((item) => `'${item}'`)
-    assert.equal(bind('(?), ?', [lying(items, length), 7]), `(${list.join(', ')}), 7`)
+    assert.equal(bind('IN (?), ?', [lying(items, length), 7]), `IN (${list.join(', ')}), 7`)
     const rows = items.map((item) => lying([item, 1, 2], length))
     const row = (item) => `(${[`'${item}'`, 1, 2].slice(0, wanted).join(', ')})`
     assert.equal(bind('VALUES ?, ?', [lying(rows, length), 7]), `VALUES ${items.slice(0, wanted).map(row).join(', ')}, 7`)
@@ -611,10 +616,10 @@ test('arrays that say what is no count', () => {
     assert.equal(bind('?, ?', [names, 7]), `${items.slice(0, wanted).map((item) => `\`${item}\``).join(', ')}, 7`)
   }
   for (const length of [0, NaN, -0.5, 2 ** 32, null, undefined]) {
-    assert.throws(() => bind('(?)', [lying([1], length)]), { kind: 'FAULT', fault: 'EMPTY' })
+    assert.throws(() => bind('IN (?)', [lying([1], length)]), { kind: 'FAULT', fault: 'EMPTY' })
   }
   for (const length of [1n, Symbol('x'), { valueOf() { throw new TypeError('of the length') } }]) {
-    assert.throws(() => bind('(?)', [lying([1], length)]), TypeError)
+    assert.throws(() => bind('IN (?)', [lying([1], length)]), TypeError)
   }
 })
 
@@ -661,8 +666,8 @@ test('options and queries', () => {
 })
 
 test('rows of all kinds', () => {
-  const rows = [[1, 'a'], [new Decimal('0.10'), 2n ** 70n], [Buffer.from([255]), null], [new Identifier('a`'), [1, 2]], [0.25,
-    'a'], [[1, -0.5], 3]]
+  const rows = [[1, 'a'], [new Decimal('0.10'), 2n ** 70n], [Buffer.from([255]), null], [new Identifier('a`'), new In([1, 2])],
+    [0.25, 'a'], [new In([1, -0.5]), 3]]
   const texts = ["1, 'a'", '0.10, 1180591620717411303424', '0xFF, NULL', '`a```, 1, 2', "0.25e0, 'a'", '1, -0.5e0, 3']
   assert.deepEqual(bindRows('SELECT ?, ?', rows), texts.map((text) => `SELECT ${text}`))
   assert.deepEqual(bindRows(Buffer.from('?, ?'), rows), texts.map((text) => Buffer.from(text)))
@@ -674,8 +679,8 @@ test('rows of all kinds', () => {
   const many = bindRows(':a', generated())
   assert.deepEqual(many, Array.from({ length: 3000 }, (_, i) => (i % 500 === 499 ? '0.5e0' : String(i))))
   // The row that is refused, with the texts before it, also within a batch and before a value that is refused.
-  for (const [bad, check] of [[[1, 2], { number: 12 }], [[[]], { number: 17 }], [[undefined], { name: 'TypeError' }], [[NaN],
-    { number: 14 }]]) {
+  for (const [bad, check] of [[[1, 2], { number: 12 }], [[new In([])], { number: 17 }], [[[1, 2]], { number: 21 }],
+    [[undefined], { name: 'TypeError' }], [[NaN], { number: 14 }]]) {
     for (const row of [0, 1, 2, 700]) {
       const given = Array.from({ length: row }, (_, i) => [i]).concat([bad, [undefined]])
       assert.throws(() => bindRows('?', given), (error) => {

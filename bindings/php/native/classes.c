@@ -8,7 +8,7 @@
 #include "Zend/zend_weakrefs.h"
 #include "ext/spl/spl_exceptions.h"
 
-zend_class_entry *template_ce, *decimal_ce, *identifier_ce, *assignments_ce, *keyword_ce, *names_ce;
+zend_class_entry *template_ce, *decimal_ce, *in_ce, *identifier_ce, *assignments_ce, *keyword_ce, *names_ce;
 
 static zend_object_handlers template_handlers;
 
@@ -148,6 +148,19 @@ PHP_METHOD(MysqlParams_Decimal, __toString)
     if (Z_TYPE_P(digits) != IS_STRING)
         RETURN_EMPTY_STRING();
     RETURN_COPY(digits);
+}
+
+PHP_METHOD(MysqlParams_In, __construct)
+{
+    zval *items;
+    ZEND_PARSE_PARAMETERS_START(1, 1)
+        Z_PARAM_ARRAY(items)
+    ZEND_PARSE_PARAMETERS_END();
+    if (!zend_array_is_list(Z_ARRVAL_P(items))) {
+        zend_argument_type_error(1, "must be a list: give array_values(..) of it");
+        RETURN_THROWS();
+    }
+    set_readonly(Z_OBJ_P(ZEND_THIS), "items", items);
 }
 
 PHP_METHOD(MysqlParams_Identifier, __construct)
@@ -355,6 +368,8 @@ void register_classes(void)
     decimal_ce = register_class("MysqlParams\\Decimal", decimal_methods);
     zend_class_implements(decimal_ce, 1, zend_ce_stringable);
     declare_mask(decimal_ce, "digits", MAY_BE_STRING);
+    in_ce = register_class("MysqlParams\\In", in_methods);
+    declare_mask(in_ce, "items", MAY_BE_ARRAY);
     identifier_ce = register_class("MysqlParams\\Identifier", identifier_methods);
     declare_mask(identifier_ce, "parts", MAY_BE_ARRAY);
     assignments_ce = register_class("MysqlParams\\Assignments", assignments_methods);
@@ -427,6 +442,7 @@ static const enum_case codes[] = {
     {"FAULT", MYSQL_PARAMS_FAULT},
     {"BACKSLASH", MYSQL_PARAMS_BACKSLASH},
     {"UNSTEADY_FRAGMENT", MYSQL_PARAMS_UNSTEADY_FRAGMENT},
+    {"UNBRACKETED", MYSQL_PARAMS_UNBRACKETED},
     {"SESSION", REFUSED_SESSION},
     {"PACKET", REFUSED_PACKET},
 };

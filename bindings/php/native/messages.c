@@ -106,6 +106,18 @@ static bool append_touching(smart_str *to, size_t at, bytes query)
     return true;
 }
 
+/* Appends which place takes one value and was given an array, and what to write. */
+static void append_unbracketed(smart_str *to, size_t at, const zend_string *name)
+{
+    const char *begin = name == NULL ? "?" : ":", *rest = name == NULL ? "" : ZSTR_VAL(name);
+    smart_str_append_printf(to, "`%s%s`", begin, rest);
+    if (name == NULL)
+        smart_str_append_printf(to, " at byte %zu", at);
+    smart_str_append_printf(to, " is one value here, and was given a list: write it alone in brackets, as `IN (%s%s)`, "
+                                "or give new In([..])",
+                            begin, rest);
+}
+
 /* Appends the message of a number in words of PHP. Returns whether there is one; else C's says it. */
 static bool append_own(smart_str *to, const question *question, int32_t number, const mysql_params_report *report,
                        const zend_string *name)
@@ -123,6 +135,9 @@ static bool append_own(smart_str *to, const question *question, int32_t number, 
         return true;
     case MYSQL_PARAMS_NOT_ALONE:
         return append_touching(to, report->position, question->query);
+    case MYSQL_PARAMS_UNBRACKETED:
+        append_unbracketed(to, report->position, name);
+        return true;
     case MYSQL_PARAMS_FLOAT:
         append_value(to, report->place, name);
         smart_str_append_printf(to, " is a float that isn't written: give null for NaN and infinities, else a text");

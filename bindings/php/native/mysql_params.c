@@ -109,6 +109,7 @@ static void hide_values(void)
     }
     for (size_t i = 0; i < sizeof of_template / sizeof *of_template; i++)
         hide(&template_ce->function_table, of_template[i], 0);
+    hide(&in_ce->function_table, "__construct", 0);
     hide(&assignments_ce->function_table, "__construct", 0);
 }
 

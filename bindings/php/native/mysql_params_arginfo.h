@@ -33,6 +33,10 @@ ZEND_END_ARG_INFO()
 ZEND_BEGIN_ARG_WITH_RETURN_TYPE_INFO_EX(arginfo_exception_texts, 0, 0, IS_ARRAY, 1)
 ZEND_END_ARG_INFO()
 
+ZEND_BEGIN_ARG_INFO_EX(arginfo_in_construct, 0, 0, 1)
+    ZEND_ARG_TYPE_INFO(0, items, IS_ARRAY, 0)
+ZEND_END_ARG_INFO()
+
 ZEND_BEGIN_ARG_INFO_EX(arginfo_identifier_construct, 0, 0, 0)
     ZEND_ARG_VARIADIC_TYPE_INFO(0, parts, IS_STRING, 0)
 ZEND_END_ARG_INFO()
@@ -52,6 +56,7 @@ PHP_METHOD(MysqlParams_Template, bindForm);
 PHP_METHOD(MysqlParams_Template, bindRows);
 PHP_METHOD(MysqlParams_Decimal, __construct);
 PHP_METHOD(MysqlParams_Decimal, __toString);
+PHP_METHOD(MysqlParams_In, __construct);
 PHP_METHOD(MysqlParams_Identifier, __construct);
 PHP_METHOD(MysqlParams_Assignments, __construct);
 PHP_METHOD(MysqlParams_Keyword, __construct);
@@ -71,6 +76,11 @@ static const zend_function_entry template_methods[] = {
 static const zend_function_entry decimal_methods[] = {
     PHP_ME(MysqlParams_Decimal, __construct, arginfo_decimal_construct, ZEND_ACC_PUBLIC)
     PHP_ME(MysqlParams_Decimal, __toString, arginfo_text, ZEND_ACC_PUBLIC)
+    PHP_FE_END
+};
+
+static const zend_function_entry in_methods[] = {
+    PHP_ME(MysqlParams_In, __construct, arginfo_in_construct, ZEND_ACC_PUBLIC)
     PHP_FE_END
 };
 

@@ -110,6 +110,8 @@ enum {
     TYPE_KEYWORD = 133,
     TYPE_IDENTIFIERS = 134,
     TYPE_ASSIGNMENTS = 135,
+    TYPE_IMPLICIT_LIST = 136,
+    TYPE_IMPLICIT_ROWS = 137,
     TYPE_VAR_STRING = 253
 };
 
@@ -200,11 +202,11 @@ zend_string *bound(question *question, HashTable *params, enum level level);
 /* The texts of rows, as a new array in `texts`. */
 bool bind_all_rows(bytes query, bool mode, zval *rows, zval *texts);
 
-extern zend_class_entry *template_ce, *decimal_ce, *identifier_ce, *assignments_ce, *keyword_ce, *exception_ce,
+extern zend_class_entry *template_ce, *decimal_ce, *in_ce, *identifier_ce, *assignments_ce, *keyword_ce, *exception_ce,
     *construct_ce, *fault_ce, *unportable_ce, *names_ce;
 
-/* The first property of an object of the classes Decimal, Identifier, Assignments and Keyword, which is what is written of
- * it. */
+/* The first property of an object of the classes Decimal, In, Identifier, Assignments and Keyword, which is what is written
+ * of it. */
 #define FIRST_PROPERTY(object) OBJ_PROP_NUM(object, 0)
 
 void register_classes(void);

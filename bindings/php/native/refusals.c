@@ -157,6 +157,7 @@ static void set_fields(zend_object *refusal, const question *question, int32_t n
         return;
     case MYSQL_PARAMS_MISSING:
     case MYSQL_PARAMS_NOT_ALONE:
+    case MYSQL_PARAMS_UNBRACKETED:
         set_long(refusal, "place", report->place);
         set_long(refusal, "position", report->position);
         if (number == MYSQL_PARAMS_MISSING)
@@ -186,14 +187,22 @@ static void set_fields(zend_object *refusal, const question *question, int32_t n
 /* Whether a refusal is of what is given for a place, whose name is told then. */
 static bool is_of_value(int32_t number)
 {
-    return number == MYSQL_PARAMS_FLOAT || number == MYSQL_PARAMS_FAULT || number == MYSQL_PARAMS_UNSTEADY_FRAGMENT;
+    return number == MYSQL_PARAMS_FLOAT || number == MYSQL_PARAMS_FAULT || number == MYSQL_PARAMS_UNSTEADY_FRAGMENT ||
+           number == MYSQL_PARAMS_UNBRACKETED;
+}
+
+/* Whether a number is that of a refusal of a query, a form or values. */
+static bool is_refusal(int32_t number)
+{
+    return (number >= MYSQL_PARAMS_FORM_END && number <= MYSQL_PARAMS_UNSTEADY_FRAGMENT) ||
+           number == MYSQL_PARAMS_UNBRACKETED;
 }
 
 void refuse(const question *question, int32_t number, const mysql_params_report *report, zend_long row)
 {
     if (number == MYSQL_PARAMS_OUT_OF_MEMORY)
         refuse_memory();
-    if (number < MYSQL_PARAMS_FORM_END || number > MYSQL_PARAMS_UNSTEADY_FRAGMENT) {
+    if (!is_refusal(number)) {
         zend_throw_error(NULL, "Unknown answer %d of the archive", (int)number);
         return;
     }

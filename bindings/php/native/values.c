@@ -94,12 +94,12 @@ static bool write_items(const writer *writer, HashTable *items)
     return true;
 }
 
-/* Appends rows, each a list. */
-static bool write_rows(const writer *writer, HashTable *rows)
+/* Appends rows, each a list, by a type. */
+static bool write_rows(const writer *writer, uint8_t type, HashTable *rows)
 {
     zval *row;
     zend_long number = 0;
-    append_head(writer->form, TYPE_ROWS);
+    append_head(writer->form, type);
     append_count(writer->form, zend_hash_num_elements(rows));
     ZEND_HASH_FOREACH_VAL(rows, row) {
         ZVAL_DEREF(row);
@@ -126,6 +126,20 @@ static uint32_t count_rows(HashTable *items)
     return rows;
 }
 
+/* Appends a list of values by its type, or rows by theirs. */
+static bool write_list(const writer *writer, uint8_t type, uint8_t type_of_rows, HashTable *items)
+{
+    uint32_t rows = count_rows(items);
+    if (rows > 0 && rows < zend_hash_num_elements(items))
+        return refuse_value(writer, zend_ce_type_error,
+                            "has rows and values: give a list of values, or one of rows alone");
+    writer->form->is_fragments = true;
+    if (rows > 0)
+        return write_rows(writer, type_of_rows, items);
+    append_head(writer->form, type);
+    return write_items(writer, items);
+}
+
 /* Throws for an object that holds nothing, or what its constructor doesn't make, as by reflection. */
 static bool refuse_unmade(const zend_object *object)
 {
@@ -133,7 +147,7 @@ static bool refuse_unmade(const zend_object *object)
     return false;
 }
 
-/* What a Decimal, an Identifier, Assignments or a Keyword was made of; null with an exception thrown. */
+/* What a Decimal, an In, an Identifier, Assignments or a Keyword was made of; null with an exception thrown. */
 static zval *made_of(zend_object *object)
 {
     zval *made = FIRST_PROPERTY(object);
@@ -191,6 +205,7 @@ static bool are_identifiers(HashTable *items)
 static bool write_identifiers(const writer *writer, HashTable *items)
 {
     zval *item;
+    writer->form->is_fragments = true;
     append_head(writer->form, TYPE_IDENTIFIERS);
     append_count(writer->form, zend_hash_num_elements(items));
     ZEND_HASH_FOREACH_VAL(items, item) {
@@ -214,7 +229,8 @@ static bool has_names(HashTable *items)
     return true;
 }
 
-/* Appends a list, rows of lists, or identifiers. */
+/* Appends a list or rows, whose place has to be alone in brackets, since the program didn't say that they are; or
+ * identifiers. */
 static bool write_array(const writer *writer, HashTable *items)
 {
     if (writer->level == LEVEL_VALUES)
@@ -226,17 +242,17 @@ static bool write_array(const writer *writer, HashTable *items)
         return refuse_value(writer, zend_ce_type_error,
                             "is an array with keys, which is no list: %sgive array_values(..) of it",
                             has_names(items) ? "for SET give new Assignments(..) of it, else " : "");
-    uint32_t rows = count_rows(items);
-    if (rows > 0 && rows < zend_hash_num_elements(items))
-        return refuse_value(writer, zend_ce_type_error,
-                            "has rows and values: give a list of values, or one of rows alone");
-    writer->form->is_fragments = true;
-    if (rows > 0)
-        return write_rows(writer, items);
     if (are_identifiers(items))
         return write_identifiers(writer, items);
-    append_head(writer->form, TYPE_LIST);
-    return write_items(writer, items);
+    return write_list(writer, TYPE_IMPLICIT_LIST, TYPE_IMPLICIT_ROWS, items);
+}
+
+/* Appends a list or rows for any place. */
+static bool write_in(const writer *writer, const zend_object *object, HashTable *items)
+{
+    if (!zend_array_is_list(items))
+        return refuse_unmade(object);
+    return write_list(writer, TYPE_LIST, TYPE_ROWS, items);
 }
 
 /* Appends the name of what is in something else, or a name of its own. */
@@ -278,7 +294,7 @@ static bool is_no_item(const zval *value)
     if (Z_TYPE_P(value) != IS_OBJECT)
         return Z_TYPE_P(value) == IS_ARRAY;
     const zend_class_entry *kind = Z_OBJCE_P(value);
-    return kind == identifier_ce || kind == assignments_ce || kind == keyword_ce;
+    return kind == in_ce || kind == identifier_ce || kind == assignments_ce || kind == keyword_ce;
 }
 
 /* Appends a column and what it is set to, a pair of both. */
@@ -353,7 +369,7 @@ static bool write_alone(const writer *writer, const zend_object *object, const z
                         ZSTR_VAL(object->ce->name), object->ce == decimal_ce ? to_do : "");
 }
 
-/* Appends a Decimal, an Identifier, Assignments or a Keyword, of which only the first stands in a list of values. */
+/* Appends a Decimal, an In, an Identifier, Assignments or a Keyword, of which only the first stands in a list of values. */
 static bool write_fragment(const writer *writer, zend_object *object)
 {
     zval *made = made_of(object);
@@ -367,6 +383,8 @@ static bool write_fragment(const writer *writer, zend_object *object)
                             "alone, so write a place for each",
                             ZSTR_VAL(object->ce->name));
     writer->form->is_fragments = true;
+    if (object->ce == in_ce)
+        return write_in(writer, object, Z_ARRVAL_P(made));
     if (object->ce == identifier_ce)
         return write_identifier(writer, object);
     if (object->ce == assignments_ce)
@@ -388,7 +406,7 @@ static bool write_case(const writer *writer, zend_object *object)
 static bool write_object(const writer *writer, zend_object *object)
 {
     zend_class_entry *kind = object->ce;
-    if (kind == decimal_ce || kind == identifier_ce || kind == assignments_ce || kind == keyword_ce)
+    if (kind == decimal_ce || kind == in_ce || kind == identifier_ce || kind == assignments_ce || kind == keyword_ce)
         return write_fragment(writer, object);
     if (kind->ce_flags & ZEND_ACC_ENUM)
         return write_case(writer, object);

@@ -4,7 +4,7 @@
 
 namespace MysqlParams\Tests;
 
-use MysqlParams\{Assignments, BindException, Construct, Decimal, Fault, Identifier, Keyword, Template, Unportable};
+use MysqlParams\{Assignments, BindException, Construct, Decimal, Fault, Identifier, In, Keyword, Template, Unportable};
 
 require __DIR__ . '/harness.php';
 
@@ -44,6 +44,11 @@ function list_of(string $items): array
     return $items === '' ? [] : array_map(value_of(...), explode('|', $items));
 }
 
+function rows_of(string $rows): array
+{
+    return array_map(list_of(...), explode('||', $rows));
+}
+
 /** Returns the identifier of names between bars. */
 function identifier_of(string $text): Identifier
 {
@@ -76,10 +81,13 @@ function value_of(string $text): mixed
         'double' => float_of($rest),
         'date' => date_of($rest),
         'time' => interval_of($rest),
-        'list' => list_of($rest),
-        'rows' => array_map(list_of(...), explode('||', $rest)),
+        'list' => new In(list_of($rest)),
+        'rows' => new In(rows_of($rest)),
+        'implicit_list' => list_of($rest),
+        'implicit_rows' => rows_of($rest),
         'identifier', 'qualified' => identifier_of($rest),
-        'identifiers' => each_of(identifier_of(...), $rest),
+        // No array says that it would have held Identifiers.
+        'identifiers' => $rest === '' ? new In([]) : each_of(identifier_of(...), $rest),
         'assignments' => new Assignments(each_of(pair_of(...), $rest)),
         'keyword' => new Keyword($rest, ['ASC', $rest]),
     };
@@ -167,6 +175,7 @@ final class Case_
             'FORM_LENGTH_LEAD', 'FORM_TYPE' => $at + ['byte' => $told['byte']],
             'FORM_REPEATED', 'MISSING' => $at + $worded + ['name' => $told['name']],
             'NOT_ALONE' => $at + $worded,
+            'UNBRACKETED' => $named + $at,
             'NAMED_FOR_POSITIONAL' => $worded,
             'MARK_COUNT' => ['marks' => $told['marks'], 'values' => $told['values']],
             'FLOAT', 'UNSTEADY_FRAGMENT' => $named + ['place' => $told['place']],
@@ -208,6 +217,7 @@ final class Case_
             'POSITIONAL_FOR_NAMED' => "The query has names: give the values by name, as ['id' => 42]",
             'MARK_COUNT' => "The query has $marks of `?` outside of strings and comments, and $values values are given",
             'NOT_ALONE' => $this->touching($position),
+            'UNBRACKETED' => $this->unbracketed($position),
             'FLOAT' => "$value is a float that isn't written: give null for NaN and infinities, else a text",
             'FAULT' => $this->faulty($for, $value, $position, $values),
             'UNSTEADY_FRAGMENT' => "$value has a name with a backslash or a letter outside ASCII: bind takes it",
@@ -224,6 +234,13 @@ final class Case_
         $shown = preg_replace_callback('/[^ -~]|["\\\\]/s', fn ($byte) => '\\x' . bin2hex($byte[0]), $touched);
         $to_do = $touched === '.' ? 'for a name with a point write one place, and give an Identifier of two names' : 'put a space between';
         return "`$found[1]` at byte $position touches `$shown`: $to_do";
+    }
+
+    /** Returns what is said of a place that is one value, and was given a list. */
+    private function unbracketed(int $position): string
+    {
+        [$place, $at] = isset($this->fields['of']) ? [":{$this->fields['of']}", ''] : ['?', " at byte $position"];
+        return "`$place`$at is one value here, and was given a list: write it alone in brackets, as `IN ($place)`, or give new In([..])";
     }
 
     /** Returns what is said of a list, rows, an exact number, a name or a keyword. */

@@ -4,7 +4,7 @@
 
 namespace MysqlParams\Tests;
 
-use MysqlParams\{Assignments, BindException, Decimal, Fault, Identifier, Keyword, Template};
+use MysqlParams\{Assignments, BindException, Decimal, Fault, Identifier, In, Keyword, Template};
 
 use function MysqlParams\{bind, bind_anywhere, bind_in_both_modes, bind_rows};
 
@@ -27,7 +27,8 @@ test('exact numbers', function () {
     literal('9.99', new Decimal('9.99'));
     literal('-12', new Decimal(-12));
     literal('18446744073709551616', new Decimal('18446744073709551616'));
-    literal('1, 0.10', [1, new Decimal('0.10')]);
+    literal('1, 0.10', new In([1, new Decimal('0.10')]));
+    same('IN (1, 0.10)', bind('IN (?)', [[1, new Decimal('0.10')]]));
     same(['9.99', '9.99'], [(string) new Decimal('9.99'), (new Decimal('9.99'))->digits]);
     foreach (['', '1e3', '1.2.3', ' 1', '+1', '0x10', "1\0", str_repeat('9', 66), '1; DROP TABLE t'] as $digits) {
         $message = 'The Decimal for `:a` is no exact number: at most one `-`, then at most 65 digits, with at most one point between';
@@ -51,16 +52,102 @@ test('whole numbers of 64 bits are values everywhere', function () {
 });
 
 test('lists and rows', function () {
-    literal("1, 'a', NULL, 0.5e0, 1", [1, 'a', null, 0.5, true]);
+    literal("1, 'a', NULL, 0.5e0, 1", new In([1, 'a', null, 0.5, true]));
+    same("IN (1, 'a', NULL, 0.5e0, 1)", bind('IN (?)', [[1, 'a', null, 0.5, true]]));
     same("VALUES (1, 'a'), (2, NULL)", bind('VALUES ?', [[[1, 'a'], [2, null]]]));
     same("VALUES (1, _utf8mb4'a')", bind_anywhere('VALUES :rows', ['rows' => [[1, 'a']]]));
     $shared = [1, 2];
-    same('(1, 2), (1, 2)', bind('?', [[$shared, &$shared]]));
+    same('(1, 2), (1, 2)', bind('?', [new In([$shared, &$shared])]));
+    same('VALUES (1, 2), (1, 2)', bind('VALUES ?', [[$shared, &$shared]]));
     $refs = [1, 2];
     foreach ($refs as &$item) {
         $held = &$item;
     }
-    literal('1, 2', $refs);
+    literal('1, 2', new In($refs));
+    same('IN (1, 2)', bind('IN (?)', [$refs]));
+});
+
+test('an array stands alone in brackets', function () {
+    $ids = [3, 'x'];
+    $rows = [[1, 'a'], [2, null]];
+    foreach ([
+        ['WHERE id IN (:a)', $ids, "WHERE id IN (3, 'x')"],
+        ['WHERE id NOT IN ( /* c */ :a )', $ids, "WHERE id NOT IN ( /* c */ 3, 'x' )"],
+        ["WHERE (a, b) IN (\n:a -- c\n)", $rows, "WHERE (a, b) IN (\n(1, 'a'), (2, NULL) -- c\n)"],
+        ['WHERE (a, b) = (:a)', $ids, "WHERE (a, b) = (3, 'x')"],
+        ['INSERT INTO t VALUES (1, 2), (:a)', $ids, "INSERT INTO t VALUES (1, 2), (3, 'x')"],
+        ['INSERT INTO t VALUES :a', $rows, "INSERT INTO t VALUES (1, 'a'), (2, NULL)"],
+        ['INSERT INTO t (a, b) value :a', $rows, "INSERT INTO t (a, b) value (1, 'a'), (2, NULL)"],
+    ] as [$query, $value, $wanted]) {
+        same($wanted, bind($query, ['a' => $value]));
+        same($wanted, (new Template($query))->bind(['a' => $value]));
+        same($wanted, bind(str_replace(':a', '?', $query), [$value]));
+        same($wanted, bind($query, ['a' => new In($value)]));
+        same(str_replace(["'x'", "'a'"], ["_utf8mb4'x'", "_utf8mb4'a'"], $wanted), bind_anywhere($query, ['a' => $value]));
+    }
+});
+
+test('an array that stands elsewhere is refused, and an In is not', function () {
+    $message = '`:a` is one value here, and was given a list: write it alone in brackets, as `IN (:a)`, or give new In([..])';
+    $role = [['x', '$.role', 'admin'], "'x', '$.role', 'admin'"];
+    $numbers = [[1, 2], '1, 2'];
+    $rows = [[[1, 2], [3, 4]], '(1, 2), (3, 4)'];
+    foreach ([
+        ["UPDATE t SET doc = JSON_SET(doc, '$.name', :a)", ...$role], ['SELECT COALESCE(:a, owner)', ...$numbers], ['SELECT 1 LIMIT :a', ...$numbers],
+        ['SELECT FIELD(id, :a)', ...$numbers], ["SELECT CONCAT_WS(',', :a)", ...$role], ['SELECT JSON_ARRAY(:a)', ...$role],
+        ['SELECT ROUND( :a )', ...$numbers], ['SELECT 1 IN (0, :a)', ...$numbers], ['UPDATE t SET a = :a', [1], '1'], ['VALUES :a', ...$numbers],
+        ['SELECT :a', ...$rows], ['SELECT (1, 2) IN ((0, 0), :a)', ...$rows], ['VALUES (1, 2), :a', ...$rows],
+    ] as [$query, $value, $literals]) {
+        $position = strpos($query, ':a');
+        $template = new Template($query);
+        // Also of a query that is kept.
+        for ($time = 0; $time < 5; $time++) {
+            bind($query, ['a' => 1]);
+            bind_anywhere($query, ['a' => 1]);
+            foreach ([bind(...), bind_anywhere(...), fn ($query, $values) => bind($query, $values, true), fn ($query, $values) => $template->bind($values)] as $call) {
+                $refusal = refused(BindException::class, $message, fn () => $call($query, ['a' => $value]));
+                same(BindException::UNBRACKETED, $refusal->getCode());
+                same(['name' => 'a', 'place' => 0, 'position' => $position], fields($refusal));
+            }
+        }
+        $marked = str_replace(':a', '?', $query);
+        $refusal = refused(BindException::class, str_replace(['`:a`', ':a'], ["`?` at byte $position", '?'], $message), fn () => bind($marked, [$value]));
+        same(['place' => 0, 'position' => $position], fields($refusal));
+        $wanted = str_replace(':a', $literals, $query);
+        same([$wanted, $wanted, $wanted], [bind($query, ['a' => new In($value)]), bind($marked, [new In($value)]), $template->bind(['a' => new In($value)])]);
+    }
+    same('SELECT `a`, `b`', bind('SELECT :a', ['a' => [new Identifier('a'), new Identifier('b')]]));
+});
+
+test('which refusal of an array comes first', function () {
+    foreach ([
+        ['SELECT ?, 1?', [[1], 2], BindException::NOT_ALONE, ['place' => 1, 'position' => 11]],
+        ['SELECT ?', [[1], 2], BindException::MARK_COUNT, ['marks' => 1, 'values' => 2]],
+        ['SELECT ?, ?', [NAN, [1]], BindException::UNBRACKETED, ['place' => 1, 'position' => 10]],
+        ['SELECT ?, ?', [new Decimal('x'), []], BindException::UNBRACKETED, ['place' => 1, 'position' => 10]],
+        ['SELECT 1 IN (?), ?, ?', [[1], [2], [3]], BindException::UNBRACKETED, ['place' => 1, 'position' => 17]],
+    ] as [$query, $values, $code, $fields]) {
+        $refusal = thrown(fn () => bind($query, $values));
+        same([$code, $fields], [$refusal->getCode(), fields($refusal)], $query);
+    }
+});
+
+test('what an In is made of, and where it stands', function () {
+    same([1, [2]], (new In([1, [2]]))->items);
+    foreach ([['a' => 1], [1 => 'a'], ['a' => 1, 5 => 2]] as $keys) {
+        refused(\TypeError::class, 'MysqlParams\In::__construct(): Argument #1 ($items) must be a list: give array_values(..) of it', fn () => new In($keys));
+    }
+    foreach ([5, 'ab', null, new \ArrayObject([1])] as $items) {
+        holds(thrown(fn () => new In($items)) instanceof \TypeError);
+    }
+    holds(thrown(fn () => new In()) instanceof \ArgumentCountError);
+    $in = new In([1]);
+    $item = 'has an item that is of type MysqlParams\In: lists and rows are of values, or a list of Identifiers alone, so write a place for each';
+    $mixed = 'has rows and values: give a list of values, or one of rows alone';
+    foreach ([[[$in], $item], [[1, $in], $item], [[[$in]], $item], [new In([$in]), $item], [new In([[1, $in]]), $item], [[[1], $in], $mixed], [new In([$in, [1]]), $mixed]] as [$value, $why]) {
+        refused(\TypeError::class, "the value of `:a` $why", fn () => bind('SELECT 1 IN (:a)', ['a' => $value]));
+        refused(\TypeError::class, "the value for place 0 $why", fn () => bind_anywhere('SELECT 1 IN (?)', [$value]));
+    }
 });
 
 test('lists and rows that cannot be written', function () {
@@ -69,10 +156,13 @@ test('lists and rows that cannot be written', function () {
         [[[]], Fault::EmptyRow, 0, 'Row 0 for % is empty'],
         [[[1, 2], [3]], Fault::RowLength, 1, 'Row 1 for % is not as long as the first'],
     ] as [$value, $fault, $row, $message]) {
-        $refusal = refused(BindException::class, str_replace('%', '`:a`', $message), fn () => bind('SELECT :a', ['a' => $value]));
-        same(BindException::FAULT, $refusal->getCode());
-        same(['fault' => $fault, 'item' => 0, 'name' => 'a', 'place' => 0, 'row' => $row], fields($refusal));
-        refused(BindException::class, str_replace('%', 'place 0', $message), fn () => bind_anywhere('SELECT ?', [$value]));
+        foreach ([['SELECT :a', new In($value)], ['SELECT 1 IN (:a)', new In($value)], ['SELECT 1 IN (:a)', $value]] as [$query, $given]) {
+            $refusal = refused(BindException::class, str_replace('%', '`:a`', $message), fn () => bind($query, ['a' => $given]));
+            same(BindException::FAULT, $refusal->getCode());
+            same(['fault' => $fault, 'item' => 0, 'name' => 'a', 'place' => 0, 'row' => $row], fields($refusal));
+            $marked = str_replace(':a', '?', $query);
+            refused(BindException::class, str_replace('%', 'place 0', $message), fn () => bind_anywhere($marked, [$given]));
+        }
     }
     $table = [
         [['a' => 1], 'is an array with keys, which is no list: for SET give new Assignments(..) of it, else give array_values(..) of it'],
@@ -92,13 +182,18 @@ test('lists and rows that cannot be written', function () {
     $table[] = [[new Identifier('t'), new Keyword('ASC', ['ASC'])], $why('Identifier')];
     $table[] = [[new Assignments(['b' => 1])], $why('Assignments')];
     $table[] = [[[new Assignments(['b' => 1])]], $why('Assignments')];
+    refused(\TypeError::class, "the value of `:a` {$why('Identifier')}", fn () => bind('SELECT :a', ['a' => new In([new Identifier('t')])]));
     foreach ($table as [$value, $why]) {
         refused(\TypeError::class, "the value of `:a` $why", fn () => bind('SELECT :a', ['a' => $value]));
         refused(\TypeError::class, "the value for place 1 $why", fn () => bind('SELECT ?, ?', [1, $value]));
+        if (array_is_list($value)) {
+            refused(\TypeError::class, "the value of `:a` $why", fn () => bind('SELECT :a', ['a' => new In($value)]));
+        }
     }
     $cycle = [1];
     $cycle[] = &$cycle;
     refused(\TypeError::class, 'the value for place 0 has rows and values: give a list of values, or one of rows alone', fn () => bind('?', [$cycle]));
+    refused(\TypeError::class, 'the value for place 0 has rows and values: give a list of values, or one of rows alone', fn () => bind('?', [new In($cycle)]));
     $cycle = null;
 });
 
@@ -163,7 +258,7 @@ test('assignments', function () {
 
 test('assignments that cannot be written', function () {
     $values = [[[1], 'array'], [[], 'array'], [['b' => 1], 'array'], [[[1, 2]], 'array'], [new Identifier('t'), Identifier::class],
-        [new Keyword('NULL', ['NULL']), Keyword::class], [new Assignments(['b' => 1]), Assignments::class]];
+        [new Keyword('NULL', ['NULL']), Keyword::class], [new Assignments(['b' => 1]), Assignments::class], [new In([1]), In::class]];
     foreach ($values as [$value, $kind]) {
         foreach ([["a\u{e9}", '`a\xc3\xa9`'], [new Identifier('t', ':b'), '`t`.`:b`']] as [$column, $shown]) {
             $message = "the value of `:set` sets $shown to a value of type $kind: a column takes one value";
@@ -225,6 +320,10 @@ test('objects that reflection made', function () {
         foreach ([$made, [$made], new Assignments([[$made, 1]])] as $value) {
             refused(\Error::class, 'MysqlParams\Identifier was not constructed', fn () => bind('SELECT ?', [$value]));
         }
+    }
+    foreach ([['a' => 1], [1 => 'a']] as $items) {
+        $made = $make(In::class, 'items', $items);
+        refused(\Error::class, 'MysqlParams\In was not constructed', fn () => bind('SELECT ?', [$made]));
     }
     foreach ([[5], [[]], [['a', 1]], [[new Identifier('a')]], [[new Identifier('a'), &$shared]], [[new \stdClass(), 1]]] as $pairs) {
         $made = $make(Assignments::class, 'pairs', $pairs);

@@ -7,7 +7,7 @@
 
 namespace MysqlParams\Tests;
 
-use MysqlParams\{Assignments, BindException, Decimal, Identifier, Keyword, Template};
+use MysqlParams\{Assignments, BindException, Decimal, Identifier, In, Keyword, Template};
 
 use function MysqlParams\{bind, bind_anywhere, bind_form, bind_in_both_modes, bind_rows, first_unportable, first_unportable_in_client, names};
 
@@ -28,7 +28,8 @@ function calls(): array
     $template = new Template('SELECT :a, :b');
     return [
         'values' => fn () => bind('SELECT ?, ?, ?, ?, ?, ?, ?, ?', [null, true, 5, "it's", 0.5, $moment, $span, Color::Red]),
-        'anywhere' => fn () => bind_anywhere('SELECT :a, :b', ['a' => "\u{e9}", ':b' => [1, 'x', new Decimal('1.5')]]),
+        'anywhere' => fn () => bind_anywhere('SELECT :a, :b', ['a' => "\u{e9}", ':b' => new In([1, 'x', new Decimal('1.5')])]),
+        'array in brackets' => fn () => bind('WHERE a IN (:a)', ['a' => [$long, 'x']]),
         'both modes' => fn () => bind_in_both_modes("SELECT '\u{e9}', ?", ["\u{e9}"]),
         'long text' => fn () => bind('SELECT ?, ?', [$long, $long]),
         'rows of a place' => fn () => bind('INSERT INTO ? VALUES ?', [new Identifier('shop', 't'), $rows]),
@@ -48,7 +49,9 @@ function calls(): array
         'mixed' => fn () => names('SELECT :a, ?'),
         'repeated' => fn () => bind('SELECT :a', ['a' => 1, ':a' => $long]),
         'float' => fn () => bind('SELECT :a, :b', ['a' => NAN, 'b' => $long]),
-        'fault' => fn () => bind('SELECT :a', ['a' => [[1, 2], [3]]]),
+        'fault' => fn () => bind('SELECT :a', ['a' => new In([[1, 2], [3]])]),
+        'array elsewhere' => fn () => bind('SELECT :a', ['a' => [$long, 2]]),
+        'array of a mark elsewhere' => fn () => bind_anywhere('SELECT ?', [[$long, 2]]),
         'unportable' => fn () => bind_anywhere('SELECT /*! :a */', ['a' => 1]),
         'unsteady' => fn () => bind_anywhere('SELECT ?', [new Identifier("\u{e9}")]),
         'object' => fn () => bind('SELECT :a, :b', ['b' => $long, 'a' => new \stdClass()]),
@@ -71,6 +74,9 @@ function calls(): array
             throw new \DomainException('mine');
         })()),
         'refused identifier' => fn () => new Identifier('a', 5),
+        'refused items' => fn () => new In(['a' => $long]),
+        'In within an In' => fn () => bind('SELECT ?', [new In([$long, new In([1])])]),
+        'second constructor of an In' => fn () => (new In([$long]))->__construct([1]),
         'refused keyword' => fn () => new Keyword('x', ['ASC']),
         'refused item beside identifiers' => fn () => bind('SELECT ?', [[new Identifier('a'), $long]]),
         'refused assignment' => fn () => bind('SET ?', [new Assignments(['a' => $long, "b\u{e9}" => [1]])]),

@@ -6,7 +6,7 @@
 
 namespace MysqlParams\Tests;
 
-use MysqlParams\{BindException, Template};
+use MysqlParams\{BindException, In, Template};
 
 use function MysqlParams\{bind, bind_rows};
 
@@ -123,7 +123,7 @@ final class Stepping implements \Iterator
 function bind_all(int $number): void
 {
     bind('SELECT ?', [str_repeat('x', 100 * $number)]);
-    bind('SELECT ?', [[1, 2, 3]]);
+    bind('SELECT ?', [new In([1, 2, 3])]);
     thrown(fn () => bind_rows('SELECT ?', [[str_repeat('y', 70000)], [1, 2]]));
     bind_rows('SELECT ?, ?', array_fill(0, 50, [$number, "it's"]));
 }

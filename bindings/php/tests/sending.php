@@ -7,7 +7,7 @@
 
 namespace MysqlParams\Tests;
 
-use MysqlParams\{Assignments, BindException, Construct, Decimal, Identifier, Keyword};
+use MysqlParams\{Assignments, BindException, Construct, Decimal, Identifier, In, Keyword};
 
 use function MysqlParams\{ask_again, execute, query};
 
@@ -45,6 +45,26 @@ test('parameters are refused before the connection is asked', function () {
     same(0, $connection->asked);
     refused(BindException::class, 'Missing named parameter `a` for statement', fn () => sent($connection, params: ['b' => 1]));
     same([1, []], [$connection->asked, $connection->sent]);
+});
+
+/** What the JSON of a request may hold, where the program expects a name. */
+const ROLE = ['x', '$.role', 'admin'];
+
+/** Throws unless an array for a place of a query is refused by both calls. */
+function refuses_array(\PDO|\mysqli $connection, string $query, array $value): void
+{
+    $message = '`:a` is one value here, and was given a list: write it alone in brackets, as `IN (:a)`, or give new In([..])';
+    foreach ([query(...), execute(...)] as $send) {
+        same(BindException::UNBRACKETED, refused(BindException::class, $message, fn () => $send($connection, $query, ['a' => $value]))->getCode());
+    }
+}
+
+test('an array where one value is meant is refused, and no text is sent', function () {
+    $connection = new Played();
+    foreach ([["UPDATE t SET doc = JSON_SET(doc, '$.name', :a)", ROLE], ['SELECT 1 LIMIT :a', [0, 1000]], ['SELECT COALESCE(:a, owner)', [1]], ['DELETE FROM t WHERE id = :a', [[1, 2]]]] as [$query, $value]) {
+        refuses_array($connection, $query, $value);
+    }
+    same([], $connection->sent);
 });
 
 test('prepared statements are emulated meanwhile', function () {
@@ -136,6 +156,25 @@ test('values of each type on a server', function () {
         same(2, (int) cell($connection, 'SELECT id FROM shop.item WHERE id IN (:ids) ORDER BY :by :order LIMIT 1', ['ids' => [1, 2], 'by' => new Identifier('id'), 'order' => new Keyword('DESC', ['ASC', 'DESC'])]), $driver);
         same(2, execute($connection, 'DELETE FROM shop.item WHERE id IN (?)', [[1, 2, 3]]), $driver);
         same(0, execute($connection, 'DELETE FROM shop.item WHERE id <=> ?', [null]), $driver);
+    }
+});
+
+test('an array where one value is meant does not reach a server', function () {
+    foreach (connections() as $driver => $connection) {
+        plain($connection, 'CREATE DATABASE IF NOT EXISTS shop');
+        plain($connection, 'DROP TABLE IF EXISTS shop.person');
+        plain($connection, 'CREATE TABLE shop.person (id INT, doc JSON)');
+        same(2, execute($connection, 'INSERT INTO shop.person VALUES :rows', ['rows' => [[1, '{}'], [2, null]]]), $driver);
+        $updates = fn () => (int) cell($connection, "SELECT VARIABLE_VALUE FROM information_schema.SESSION_STATUS WHERE VARIABLE_NAME = 'COM_UPDATE'");
+        same(1, execute($connection, "UPDATE shop.person SET doc = JSON_SET(doc, '$.name', :a) WHERE id = 1", ['a' => 'y']), $driver);
+        same(1, $updates(), $driver);
+        refuses_array($connection, "UPDATE shop.person SET doc = JSON_SET(doc, '$.name', :a) WHERE id = 1", ROLE);
+        same(1, $updates(), $driver);
+        same('{"name": "y"}', cell($connection, 'SELECT doc FROM shop.person WHERE (id, 1) IN ( /* one */ :pairs )', ['pairs' => [[1, 1], [3, 1]]]), $driver);
+        same(1, execute($connection, 'UPDATE shop.person SET doc = JSON_SET(doc, :set) WHERE id IN (:ids)', ['set' => new In(['$.name', 'z', '$.role', 'user']), 'ids' => [1, 7]]), $driver);
+        same('{"name": "z", "role": "user"}', cell($connection, 'SELECT doc FROM shop.person WHERE id = 1'), $driver);
+        same(2, (int) cell($connection, 'SELECT id FROM shop.person ORDER BY FIELD(id, :ids) LIMIT 1', ['ids' => new In([2, 1])]), $driver);
+        same('a', cell($connection, 'SELECT COALESCE(:values)', ['values' => new In([null, 'a', 'b'])]), $driver);
     }
 });
 

@@ -13,7 +13,7 @@ enum { THREADS = 4, REQUESTS = 25 };
 static const char program[] =
     "(function () {"
     "    try { MysqlParams\\bind_rows('SELECT :a', [['a' => %d], ['b' => 1]]); } catch (MysqlParams\\BindException) { }"
-    "    try { MysqlParams\\bind('SELECT ?', [[]]); } catch (MysqlParams\\BindException $refusal) { }"
+    "    try { MysqlParams\\bind('SELECT ?', [new MysqlParams\\In([])]); } catch (MysqlParams\\BindException $refusal) { }"
     "    if ($refusal->fault !== MysqlParams\\Fault::Empty) { return 'no fault'; }"
     "    for ($i = 0; $i < 20; $i++) { $text = MysqlParams\\bind('SELECT ?, ?', [%d, \"it's\"]); }"
     "    return $text;"

@@ -24,7 +24,7 @@ test('memory that is refused is an error of PHP', function () {
 });
 
 test('numbers that no archive returns', function () {
-    foreach ([99, -5, 20, 21] as $number) {
+    foreach ([99, -5, 20, 22] as $number) {
         foreach ([bind(...), bind_anywhere(...), bind_in_both_modes(...), names(...)] as $call) {
             refused(\Error::class, "Unknown answer $number of the archive", fn () => $call((string) $number));
         }

@@ -4,7 +4,7 @@
 
 namespace MysqlParams\Tests;
 
-use MysqlParams\{Assignments, BindException, Construct, Decimal, Identifier, Keyword, Names, Template, Unportable};
+use MysqlParams\{Assignments, BindException, Construct, Decimal, Identifier, In, Keyword, Names, Template, Unportable};
 
 use function MysqlParams\{bind, bind_anywhere, bind_form, bind_in_both_modes, bind_rows, first_unportable, first_unportable_in_client, names};
 
@@ -94,7 +94,7 @@ test('floats', function () {
     foreach ([NAN, INF, -INF] as $number) {
         $refusal = refused(BindException::class, "The value of `:b` is a float that isn't written: give null for NaN and infinities, else a text", fn () => bind('SELECT :a, :b', ['a' => 1, 'b' => $number]));
         same([BindException::FLOAT, ['name' => 'b', 'place' => 1]], [$refusal->getCode(), fields($refusal)]);
-        refused(BindException::class, "The value for place 0 is a float that isn't written: give null for NaN and infinities, else a text", fn () => bind('SELECT ?', [[1, $number]]));
+        refused(BindException::class, "The value for place 0 is a float that isn't written: give null for NaN and infinities, else a text", fn () => bind('SELECT ?', [new In([1, $number])]));
         refused(BindException::class, "The value for place 0 is a float that isn't written: give null for NaN and infinities, else a text", fn () => bind_anywhere('SELECT ?', [$number]));
     }
     // Without a place for it there is no refusal.
@@ -169,7 +169,8 @@ test('spans of no known length are refused', function () {
 test('enums by their value', function () {
     literal("'it\\'s red'", Color::Red);
     literal('3', Size::Large);
-    literal("'it\\'s red', 3", [Color::Red, Size::Large]);
+    literal("'it\\'s red', 3", new In([Color::Red, Size::Large]));
+    same("IN ('it\\'s red', 3)", bind('IN (?)', [[Color::Red, Size::Large]]));
     same(["SELECT 3"], bind_rows('SELECT ?', [[Size::Large]]));
     $message = 'the value of `:a` is a case of the enum MysqlParams\Tests\Pure, which has no value: give one a value';
     refused(\TypeError::class, $message, fn () => bind('SELECT :a', ['a' => Pure::Only]));
@@ -203,6 +204,9 @@ test('calls that take values alone', function () {
     refused(\TypeError::class, "the value for place 0 $assignments", fn () => bind_in_both_modes('SET ?', [new Assignments(['a' => 1])]));
     refused(\TypeError::class, "row 0: the value for place 0 $assignments", fn () => bind_rows('SET ?', [[new Assignments(['a' => 1])]]));
     refused(\TypeError::class, "the value for place 0 $array", fn () => bind_in_both_modes('SELECT ?', [[new Identifier('t')]]));
+    $in = 'is of type MysqlParams\In, and this call takes values alone';
+    refused(\TypeError::class, "the value of `:a` $in", fn () => bind_in_both_modes('SELECT 1 IN (:a)', ['a' => new In([1])]));
+    refused(\TypeError::class, "row 0: the value for place 0 $in", fn () => bind_rows('SELECT 1 IN (?)', [[new In([1])]]));
     refused(\TypeError::class, "the value for place 0 $array", fn () => bind_in_both_modes('SELECT ?', [['a' => 1]]));
     refused(BindException::class, "The value for place 0 is a float that isn't written: give null for NaN and infinities, else a text", fn () => bind_in_both_modes('SELECT ?', [0.5]));
 });
@@ -252,7 +256,8 @@ test('the mode is true or false', function () {
 
 test('a hundred thousand values', function () {
     $numbers = range(1, 100000);
-    same('SELECT ' . implode(', ', $numbers), bind('SELECT ?', [$numbers]));
+    same('SELECT ' . implode(', ', $numbers), bind('SELECT ?', [new In($numbers)]));
+    same('IN (' . implode(', ', $numbers) . ')', bind('IN (?)', [$numbers]));
     $marks = 'SELECT ' . implode(', ', array_fill(0, 100000, '?'));
     same('SELECT ' . implode(', ', $numbers), bind($marks, $numbers));
     same('SELECT ' . implode(', ', $numbers), bind_anywhere($marks, $numbers));
@@ -376,7 +381,7 @@ test('templates', function () {
     $template = new Template('SELECT :a, :b');
     same(['SELECT :a, :b', false], [$template->query, $template->noBackslashEscape]);
     same("SELECT 1, 'it\\'s'", $template->bind(['a' => 1, 'b' => "it's"]));
-    same('SELECT 0.5e0, 1, 2', $template->bind(['a' => 0.5, 'b' => [1, 2]]));
+    same('SELECT 0.5e0, 1, 2', $template->bind(['a' => 0.5, 'b' => new In([1, 2])]));
     same(['SELECT 1, 2', 'SELECT 3, 4'], $template->bindRows([['a' => 1, 'b' => 2], ['a' => 3, 'b' => 4]]));
     same("SELECT '\\'", (new Template('SELECT ?', true))->bind(['\\']));
     $refusal = refused(BindException::class, 'Missing named parameter `b` for statement', fn () => $template->bind(['a' => 1]));
@@ -389,17 +394,18 @@ test('templates', function () {
 
 test('objects that nobody constructed', function () {
     holds(thrown(fn () => (new \ReflectionClass(Template::class))->newInstanceWithoutConstructor()) instanceof \ReflectionException);
-    foreach ([Decimal::class, Identifier::class, Assignments::class, Keyword::class] as $kind) {
+    foreach ([Decimal::class, In::class, Identifier::class, Assignments::class, Keyword::class] as $kind) {
         $made = (new \ReflectionClass($kind))->newInstanceWithoutConstructor();
         refused(\Error::class, "$kind was not constructed", fn () => bind('SELECT ?', [$made]));
         refused(\Error::class, "$kind was not constructed", fn () => bind('SELECT ?', [[$made]]));
     }
     same('', (string) (new \ReflectionClass(Decimal::class))->newInstanceWithoutConstructor());
-    foreach ([Template::class, Decimal::class, Identifier::class, Assignments::class, Keyword::class] as $kind) {
+    foreach ([Template::class, Decimal::class, In::class, Identifier::class, Assignments::class, Keyword::class] as $kind) {
         holds(thrown(fn () => unserialize('O:' . strlen($kind) . ":\"$kind\":0:{}")) instanceof \Exception, $kind);
         holds(thrown(fn () => serialize(match ($kind) {
             Template::class => new Template(''),
             Decimal::class => new Decimal('1'),
+            In::class => new In([1]),
             Identifier::class => new Identifier('a'),
             Assignments::class => new Assignments(['a' => 1]),
             Keyword::class => new Keyword('ASC', ['ASC']),
@@ -408,7 +414,7 @@ test('objects that nobody constructed', function () {
     foreach ([Names::class, Unportable::class] as $kind) {
         holds(thrown(fn () => new $kind()) instanceof \Error, $kind);
     }
-    foreach (['digits' => new Decimal('1'), 'parts' => new Identifier('a'), 'pairs' => new Assignments(['a' => 1]), 'word' => new Keyword('ASC', ['ASC'])] as $property => $object) {
+    foreach (['digits' => new Decimal('1'), 'items' => new In([1]), 'parts' => new Identifier('a'), 'pairs' => new Assignments(['a' => 1]), 'word' => new Keyword('ASC', ['ASC'])] as $property => $object) {
         $kind = get_class($object);
         refused(\Error::class, "Cannot modify readonly property $kind::\$$property", fn () => $object->$property = ['x']);
         refused(\Error::class, "Cannot create dynamic property $kind::\$more", fn () => $object->more = 1);
@@ -445,6 +451,9 @@ test('no message and no trace shows a value', function () {
         fn () => bind('SELECT ?', [new Assignments(['a' => $secret, 'b' => [$secret]])]),
         fn () => new Assignments(['a' => $secret, 5 => $secret]),
         fn () => new Assignments([['a', $secret], [$secret]]),
+        fn () => bind('SELECT ?', [[$secret, $secret]]),
+        fn () => bind('SELECT ?', [new In([$secret, [$secret]])]),
+        fn () => new In(['a' => $secret]),
     ];
     ini_set('zend.exception_ignore_args', '0');
     foreach ($calls as $number => $call) {

@@ -29,7 +29,7 @@ from collections.abc import Iterable, Iterator, Mapping, Sequence, ValuesView
 from typing import NamedTuple, NoReturn, Optional, Union
 
 from . import _archive, _form, _native
-from ._fragments import KEYWORDS, Assignments, Identifier, Keyword
+from ._fragments import KEYWORDS, Assignments, Identifier, In, Keyword
 from ._many import execute_rows, executemany
 from ._sending import DelimiterError, EncodingError, PacketError, SessionError, ask_again, exec_driver_sql, execute
 from ._template import Template
@@ -63,6 +63,7 @@ from .errors import (
     QueryDecodeError,
     QueryPlacesError,
     RepeatedNameError,
+    UnbracketedError,
     UnportableError,
     UnsteadyError,
     UnsteadyFragmentError,
@@ -93,6 +94,7 @@ __all__ = [
     "FormTypeError",
     "FragmentError",
     "Identifier",
+    "In",
     "KEYWORDS",
     "Keyword",
     "MarkCountError",
@@ -112,6 +114,7 @@ __all__ = [
     "RepeatedNameError",
     "SessionError",
     "Template",
+    "UnbracketedError",
     "Unportable",
     "UnportableError",
     "UnsteadyError",
@@ -251,7 +254,8 @@ def bind(
     A place takes more than one value: a list or a tuple of values for IN (``a IN (?)``), a list of lists or tuples of
     values as rows (``VALUES ?``), a Decimal, which is written bare so that it is compared and computed exactly, as is an int
     of more than 64 bits, an Identifier, a list or a tuple of these, Assignments (``SET ?``), and a Keyword. Items may be such
-    numbers. A str, bytes or a set is no list.
+    numbers. A str, bytes or a set is no list. A list of values stands alone in brackets, and rows so or behind VALUES: for another
+    place, as in ``FIELD(id, ?)``, give an In.
 
     A datetime with a time zone is refused, unless zone is given, which is that of the connection (@@time_zone): then it
     is bound as the clocks there show it; ArgumentValueError for one that they show twice, or never. One without a zone is
@@ -262,8 +266,8 @@ def bind(
     one that is no number, and for an empty name; ArgumentEncodeError, a UnicodeEncodeError, for a str with a lone
     surrogate (also for a query that is one); RepeatedNameError for a name given as str and as bytes. Then, of the query,
     the first that holds: MixedError; MissingError, NamedForPositionalError or PositionalForNamedError; MarkCountError;
-    NotAloneError; FloatError; FragmentError, as for an empty list or rows of two lengths. In place of any of them, and of
-    a text, OutOfMemoryError.
+    NotAloneError; UnbracketedError; FloatError; FragmentError, as for an empty list or rows of two lengths. In place of any of
+    them, and of a text, OutOfMemoryError.
     """
     return _native.bind(query, params, no_backslash_escape, zone)
 
@@ -279,7 +283,7 @@ def bind_form(query: Union[str, bytes], form: bytes, no_backslash_escape: bool =
 def bind_anywhere(
     query: Union[str, bytes], params: Params = None, *, zone: Optional[datetime.tzinfo] = None
 ) -> bytes:
-    """Return the query with literals that depend on no connection: no sql_mode and no character set reads it otherwise.
+    """Return the query with literals that depend on no connection: no sql_mode and no character set moves their ends.
 
     It is a text for MySQL and MariaDB. The query has to be ASCII without a backslash, also in its comments, and portable.
 
@@ -305,7 +309,7 @@ def bind_form_anywhere(query: Union[str, bytes], form: bytes) -> bytes:
 def bind_in_both_modes(
     query: Union[str, bytes], params: Params = None, *, zone: Optional[datetime.tzinfo] = None
 ) -> bytes:
-    """Return the text of bind_anywhere for a query that may have bytes from 128 on: no sql_mode reads it otherwise.
+    """Return the text of bind_anywhere for a query that may have bytes from 128 on: no sql_mode moves a literal's end.
 
     It is a text for MySQL and MariaDB. The connection's character set has to be that of the query's bytes, utf8mb4 for a
     str. No string of the query may hold a backslash, nor a text in ``"``; and the query has to be portable.

@@ -20,7 +20,7 @@ except ModuleNotFoundError as fault:
 
 from . import _form, _fragments, _native, _values
 from .errors import _ERRORS, ArgumentTypeError, Error, Fault, FloatError, FragmentError, OutOfMemoryError, RepeatedNameError
-from .errors import UnsteadyFragmentError
+from .errors import UnbracketedError, UnsteadyFragmentError
 from .portable import Construct, Unportable
 
 PORTABLE, NO_MEMORY = 0, -1
@@ -152,9 +152,9 @@ def error(number: int, report: Report, query: bytes, form: bytes) -> Exception:
 
 
 def refusal(number: int, report: tuple[int, ...], query: bytes, form: bytes, mode: bool) -> Exception:
-    """Return what to raise for a number other than done, with the name of the place of a float or a fragment."""
+    """Return what to raise for a number other than done, with the name of the place of a float, a list or a fragment."""
     found = error(number, Report(*report), query, form)
-    if isinstance(found, (FloatError, FragmentError, UnsteadyFragmentError)):
+    if isinstance(found, (FloatError, FragmentError, UnbracketedError, UnsteadyFragmentError)):
         names = names_of(query, mode)[1]
         found.name = names[found.place] if names else None
     return found
@@ -164,7 +164,7 @@ def bind_rows(query: bytes, rows: Iterable[object], mode: bool) -> list[bytes]:
     """Return the text of each row. What a row is refused for tells its number and the texts of the rows before it."""
     texts: list[bytes] = []
     try:
-        _native.bind_rows(query, rows, mode, None, False, texts)
+        _native.bind_rows(query, rows, mode, None, False, False, texts)
     except Error as fault:
         fault.row, fault.texts = len(texts), texts
         raise
@@ -219,6 +219,7 @@ _native.set_up(
         "time": datetime.time,
         "timedelta": datetime.timedelta,
         "decimal": decimal.Decimal,
+        "in": _fragments.In,
         "lists": (list, tuple),
     }
 )

@@ -1,5 +1,7 @@
 """What stands in a place beside one value: lists, rows, exact numbers, identifiers, assignments and keywords.
 
+A list or rows are implicit if a value is one, and the caller gave no In: they stand only alone in brackets.
+
 A finite float is a value here, which the same calls write.
 """
 
@@ -16,6 +18,7 @@ from .errors import ArgumentEncodeError, ArgumentOverflowError, ArgumentTypeErro
 
 # The types of the flat form that are no column types: see mysql_params_bind_fragments in mysql_params.h.
 _NUMBER, _LIST, _ROWS, _IDENTIFIER, _QUALIFIED, _KEYWORD, _IDENTIFIERS, _ASSIGNMENTS = range(128, 136)
+_IMPLICIT_LIST, _IMPLICIT_ROWS = 136, 137
 
 
 class Identifier:
@@ -43,6 +46,31 @@ class Identifier:
 
     def __repr__(self) -> str:
         return f"Identifier({', '.join(map(repr, self.parts))})"
+
+
+class In:
+    """Several values for one place, or rows: ``In([1, 2])``. A list that isn't said to be one stands only alone in brackets.
+
+    So a list in the JSON of a request doesn't become several arguments of a function. Don't make an In of a value from outside
+    without a look at it. It takes a list or a tuple, of what that has elsewhere, and goes into any place.
+
+    >>> import mysql_params
+    >>> mysql_params.bind("SELECT id FROM t WHERE id IN (?) ORDER BY FIELD(id, ?)", [[3, 1], mysql_params.In([3, 1])])
+    b'SELECT id FROM t WHERE id IN (3, 1) ORDER BY FIELD(id, 3, 1)'
+    """
+
+    __slots__ = ("items",)
+    items: tuple[object, ...]
+    """The values, or the rows."""
+
+    def __init__(self, items: Union[list[Any], tuple[Any, ...]]) -> None:
+        """Take the values, or the rows."""
+        if not issubclass(type(items), (list, tuple)):
+            raise ArgumentTypeError(f"an In is made of a list or a tuple, and not {type(items).__name__}")
+        self.items = tuple(items)
+
+    def __repr__(self) -> str:
+        return f"In({list(self.items)!r})"
 
 
 _Column = Union[str, Identifier]
@@ -132,7 +160,7 @@ class Keyword:
 _NO_LISTS = (*_form._BOUND, Mapping)
 """The types of which each is more than what it consists of, as a text, or a flag of an enum."""
 
-_FRAGMENTS = (decimal.Decimal, list, tuple, Identifier, Assignments, Keyword)
+_FRAGMENTS = (decimal.Decimal, list, tuple, In, Identifier, Assignments, Keyword)
 """The types of what isn't one value."""
 
 
@@ -189,7 +217,7 @@ def item_form(value: object, which: Union[bytes, int], zone: Optional[datetime.t
         return _number(value, which)
     if isinstance(value, (list, tuple)):
         raise ArgumentTypeError(f"{_form.place(which)} has a {type(value).__name__} in a row: rows are of values")
-    if isinstance(value, (Identifier, Assignments, Keyword)):
+    if isinstance(value, (In, Identifier, Assignments, Keyword)):
         to_do = "lists and rows are of values, or a list of Identifiers alone, so write a place for each"
         raise ArgumentTypeError(f"{_form.place(which)} has an item that is of type {type(value).__name__}: {to_do}")
     wide = _wide_number(value, which)
@@ -202,9 +230,9 @@ def _items(values: Iterable[object], which: Union[bytes, int], zone: Optional[da
     return _count(len(items)) + b"".join(items)
 
 
-def rows_form(rows: list[bytes]) -> bytes:
+def rows_form(rows: list[bytes], is_implicit: bool = False) -> bytes:
     """Return type, flags and the rest of rows, of each of which is handed in what `row_items` returns."""
-    return bytes([_ROWS, 0]) + _count(len(rows)) + b"".join(rows)
+    return bytes([_IMPLICIT_ROWS if is_implicit else _ROWS, 0]) + _count(len(rows)) + b"".join(rows)
 
 
 def _names(parts: tuple[str, ...], which: Union[bytes, int]) -> bytes:
@@ -224,7 +252,10 @@ def _identifiers(values: tuple[object, ...], which: Union[bytes, int]) -> Option
 
 
 def _list(
-    given: Union[list[object], tuple[object, ...]], which: Union[bytes, int], zone: Optional[datetime.tzinfo]
+    given: Union[list[object], tuple[object, ...]],
+    which: Union[bytes, int],
+    zone: Optional[datetime.tzinfo],
+    is_implicit: bool,
 ) -> bytes:
     """Return type, flags and items of a list, or rows of lists and tuples, or identifiers."""
     values = tuple(given)  # A registered function may change what is given.
@@ -232,10 +263,12 @@ def _list(
     if rows:
         if len(rows) < len(values):
             raise ArgumentTypeError(f"{_form.place(which)} has rows and values: give a list of values, or one of rows alone")
-        return rows_form([_items(row, which, zone) for row in rows])
+        return rows_form([_items(row, which, zone) for row in rows], is_implicit)
     values = (*map(plain, values[:1]), *values[1:])
     identifiers = _identifiers(values, which)
-    return bytes([_LIST, 0]) + _items(values, which, zone) if identifiers is None else identifiers
+    if identifiers is not None:
+        return identifiers
+    return bytes([_IMPLICIT_LIST if is_implicit else _LIST, 0]) + _items(values, which, zone)
 
 
 def _assignments(
@@ -245,7 +278,7 @@ def _assignments(
     made = []
     for column, given in pairs:
         value = plain(given)
-        if issubclass(type(value), (list, tuple, Identifier, Assignments, Keyword)):
+        if issubclass(type(value), (list, tuple, In, Identifier, Assignments, Keyword)):
             names = ".".join(f"`{_show(part.encode(errors='backslashreplace'))}`" for part in column.parts)
             kind = type(value).__name__
             raise ArgumentTypeError(f"{_form.place(which)} sets {names} to a value of type {kind}: a column takes one value")
@@ -263,7 +296,9 @@ def fragment_form(value: object, which: Union[bytes, int], zone: Optional[dateti
     if isinstance(value, decimal.Decimal):
         return _number(value, which)
     if isinstance(value, (list, tuple)):
-        return _list(value, which, zone)
+        return _list(value, which, zone, True)
+    if isinstance(value, In):
+        return _list(value.items, which, zone, False)
     if isinstance(value, Identifier):
         if len(value.parts) == 1:
             return bytes([_IDENTIFIER, 0]) + _text(value.parts[0], which)

@@ -14,11 +14,13 @@ from ._values import zone_of
 from .errors import ArgumentTypeError, ArgumentValueError, Error, FloatError, FragmentError, MarkCountError, QueryPlacesError
 
 
-def _texts(query: bytes, told: Told, rows: Iterable[object], zone: Optional[datetime.tzinfo]) -> list[bytes]:
+def _texts(
+    query: bytes, told: Told, rows: Iterable[object], zone: Optional[datetime.tzinfo], steady: bool
+) -> list[bytes]:
     """Return the text of each row. What a row is refused for tells its number."""
     texts: list[bytes] = []
     try:
-        _native.bind_rows(query, rows, told.no_backslash_escape, zone, True, texts)
+        _native.bind_rows(query, rows, told.no_backslash_escape, zone, True, steady, texts)
     except Error as fault:
         fault.row = len(texts)
         raise
@@ -86,6 +88,7 @@ def executemany(
     *,
     zone: Optional[datetime.tzinfo] = None,
     always_ask: bool = False,
+    steady: bool = False,
 ) -> int:
     """Bind a query to the parameters of each row, then send the texts. Return the sum of the rows they changed.
 
@@ -97,14 +100,15 @@ def executemany(
     each row's lastrowid take execute.
 
     The query is parsed once for many rows, and the connection is asked before the first. All are bound before the first text
-    is sent: if one is refused, nothing was sent, and the refusal's attribute `row` is its number from 0. Raise as execute.
+    is sent: if one is refused, nothing was sent, and the refusal's attribute `row` is its number from 0. Each row has the literals
+    that execute gives it, and is refused as there.
 
     A query that is no SELECT, INSERT, UPDATE, DELETE or REPLACE may change the session. Then the connection is asked before
     each text: if one before it changed the mode or a character set, raise SessionError.
     """
     connection, query = connection_of(cursor), _form.bytes_of(query)
     told = told_for(connection, query, always_ask)
-    texts, insert = _texts(query, told, rows, zone_of(zone)), _INSERT.match(query)
+    texts, insert = _texts(query, told, rows, zone_of(zone), steady), _INSERT.match(query)
     if insert is not None:
         texts = _joined(texts, insert, min(told.most, _LONGEST_TEXT))
     return _sent(cursor, connection, query, texts, told)
@@ -152,8 +156,11 @@ class _Beside:
 class _Gatherer:
     """Rows gathered to texts for the place of a query that takes them."""
 
-    def __init__(self, query: bytes, told: Told, zone: Optional[datetime.tzinfo], beside: _Beside) -> None:
+    def __init__(
+        self, query: bytes, told: Told, zone: Optional[datetime.tzinfo], beside: _Beside, steady: bool
+    ) -> None:
         self.query, self.mode, self.zone, self.beside = query, told.no_backslash_escape, zone, beside.form
+        self.steady = steady
         self.name = beside.place_of_rows(query, self.mode)
         self.which: Union[bytes, int] = self.name or 0
         around = len(self.bound([_ONE_NULL])) if beside.names else len(query)
@@ -166,9 +173,9 @@ class _Gatherer:
         self.width = b""
 
     def bound(self, forms: list[bytes]) -> bytes:
-        """Return the text of rows."""
-        form = self.beside + _form.string_form(self.name) + rows_form(forms)
-        return _native.bind_written(self.query, form, self.mode, True)
+        """Return the text of rows. Where one value stands they are refused, so no name beside them moves them there."""
+        form = self.beside + _form.string_form(self.name) + rows_form(forms, is_implicit=True)
+        return _native.bind_written(self.query, form, self.mode, True, self.steady)
 
     def refuse(self, fault: Error, forms: list[bytes], number: int) -> NoReturn:
         """Raise what refuses these rows, of which the first has this number, with the number of the row that it is about."""
@@ -255,13 +262,15 @@ def execute_rows(
     *,
     zone: Optional[datetime.tzinfo] = None,
     always_ask: bool = False,
+    steady: bool = False,
 ) -> int:
     """Put many rows into the one place of a query, and send few texts, each of many rows. Return the sum of their rows.
 
         mysql_params.execute_rows(cursor, "INSERT INTO t (id, name) VALUES ?", rows)
         mysql_params.execute_rows(cursor, "INSERT INTO :table (id, name) VALUES :rows", rows, {"table": Identifier(table)})
 
-    Parameters beside the rows are by name, and stand in each text. The one name without a parameter takes the rows.
+    Parameters beside the rows are by name, and stand in each text. The one name without a parameter takes the rows: it stands
+    directly after VALUES, or alone in brackets as in IN (:rows).
 
     A row is a list, a tuple or a mapping, of values and exact numbers. Of mappings the values go in the order of the first row's
     names: write the query's columns in this order. A mapping with other names is a ValueError, which tells the row.
@@ -270,13 +279,13 @@ def execute_rows(
     its own: for all or none begin a transaction. All are bound before the first is sent: if one is refused, nothing was sent. No
     rows send nothing. The cursor's rowcount is the last text's.
 
-    Raise as execute, and QueryPlacesError for a query without just one place for the rows. A FragmentError's `in_row`, and
-    the `row` of another refusal of a row, is the row's number from 0 among all.
+    Literals are as of execute. Raise as it does, and QueryPlacesError for a query without just one place for the rows. A
+    FragmentError's `in_row`, and the `row` of another refusal of a row, is the row's number from 0 among all.
     """
     connection, query = connection_of(cursor), _form.bytes_of(query)
     beside = _Beside(params, zone_of(zone))
     told = told_for(connection, query, always_ask)
-    gatherer = _Gatherer(query, told, zone_of(zone), beside)
+    gatherer = _Gatherer(query, told, zone_of(zone), beside, bool(steady))
     for row in rows:
         gatherer.add(row)
     gatherer.bind_gathered()

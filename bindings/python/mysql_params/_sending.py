@@ -226,12 +226,12 @@ def told_for(connection: Any, query: bytes, always_ask: bool) -> Told:
 
 
 def _bound(
-    connection: Any, query: bytes, params: object, zone: Optional[datetime.tzinfo], always_ask: bool
+    connection: Any, query: bytes, params: object, zone: Optional[datetime.tzinfo], always_ask: bool, steady: bool
 ) -> bytes:
     """Return the text to send over a connection of a driver."""
     form, is_fragments = _native.written(params, zone, True)
     told = told_for(connection, query, always_ask)
-    text = _native.bind_written(query, form, told.no_backslash_escape, is_fragments)
+    text = _native.bind_written(query, form, told.no_backslash_escape, is_fragments, steady)
     refusal = told.refusal(text)
     if refusal is not None:
         raise refusal
@@ -273,6 +273,7 @@ def execute(
     *,
     zone: Optional[datetime.tzinfo] = None,
     always_ask: bool = False,
+    steady: bool = False,
 ) -> Any:
     """Bind a query, and have a driver's cursor send the text. Return what its execute returns.
 
@@ -282,18 +283,22 @@ def execute(
             mysql_params.execute(cursor, "SELECT * FROM t WHERE id = :id", {"id": 42})
             rows = cursor.fetchall()
 
+    If the query and its identifiers are ASCII without a backslash, the text has guarded literals, such as 'it''s': a session of
+    another mode or character set than was told, except swe7, may read another value, and no value as SQL. Else it is the text of
+    bind in the mode that was told. With steady it is that of bind_anywhere.
+
     The mode, the character sets and the longest text are asked of the connection before its first text. They are asked
     anew once it was made anew, its driver tells of another mode or has answers to read, or this package sent what is
     not one SELECT, INSERT, UPDATE, DELETE or REPLACE. With MySQL Connector and other drivers they are asked before each
     text; so they are with always_ask, as over a proxy. The text goes out without parameters, so a ``%`` in it stays one.
 
-    Raise as bind; UnportableError; SessionError for a connection that isn't utf8mb4; PacketError for a text that is too
-    long; DelimiterError for one that MySQL Connector would cut, EncodingError for one that it may rewrite; and what the
-    driver raises, whose message may show the text. After a ``SET`` of the mode or a character set that you sent by the
-    driver call ask_again.
+    Raise as bind, or with steady as bind_anywhere; UnportableError; SessionError for a connection that isn't utf8mb4;
+    PacketError for a text that is too long; DelimiterError for one that MySQL Connector would cut, EncodingError for one
+    that it may rewrite; and what the driver raises, whose message may show the text. After a ``SET`` of the mode or a
+    character set that you sent by the driver call ask_again.
     """
     connection, query = connection_of(cursor), _form.bytes_of(query)
-    text = _bound(connection, query, params, zone, always_ask)
+    text = _bound(connection, query, params, zone, always_ask, steady)
     try:
         return cursor.execute(text)
     finally:
@@ -307,6 +312,7 @@ def exec_driver_sql(
     *,
     zone: Optional[datetime.tzinfo] = None,
     always_ask: bool = False,
+    steady: bool = False,
 ) -> Any:
     """Bind a query, and have SQLAlchemy's connection send the text. Return its result.
 
@@ -331,7 +337,7 @@ def exec_driver_sql(
         query.decode()
     except UnicodeDecodeError as fault:
         raise QueryDecodeError(*fault.args) from None
-    text = _bound(own, query, params, zone, always_ask)
+    text = _bound(own, query, params, zone, always_ask, steady)
     refusal = _rewritten(encoding_of(own), text)
     if refusal is not None:
         raise refusal

@@ -320,6 +320,27 @@ class NotAloneError(_WordError):
         return touches + (super()._more() or self._to_do)
 
 
+class UnbracketedError(ProgrammingError):
+    """The place `place`, at the byte `position` of the query, takes one value, and was given a list or rows.
+
+    A list stands alone in brackets, as in ``IN (:ids)``: behind IN, VALUES, a comma, another bracket, or the comparison of a row
+    as in ``(a, b) = (:pair)``. It stands so behind VALUE after the columns, and behind ROW where a row may begin. Rows stand so
+    too, or behind VALUES. Elsewhere a list would become several arguments: an In of it says so.
+    """
+
+    number = 21
+    place: int
+    position: int
+    _fields: tuple[str, ...] = ("place", "position")
+    name: Optional[str] = None
+    """The name that stands in that place. None for a ``?``."""
+
+    def _more(self) -> str:
+        sign, where = ("?", f" at byte {self.position}") if self.name is None else (f":{self.name}", "")
+        to_do = f"write it alone in brackets, as `IN ({sign})`, or give In([..])"
+        return f"`{sign}`{where} is one value here, and was given a list: {to_do}"
+
+
 class FloatError(DataError):
     """The value for the place `place` is a NaN or an infinity, which no number says: give None for NULL.
 
@@ -338,7 +359,7 @@ class FloatError(DataError):
 
 
 class UnsteadyError(ProgrammingError):
-    """The query has a backslash or a byte from 128 on: `position` is the first. It is of bind_anywhere alone."""
+    """The query has a backslash or a byte from 128 on: `position` is the first. It is of bind_anywhere, and of steady."""
 
     number = 15
     position: int
@@ -436,7 +457,7 @@ class FragmentError(DataError):
 
 
 class UnsteadyFragmentError(DataError):
-    """A name for the place `place` has a backslash or a character that isn't ASCII. It is of bind_anywhere alone."""
+    """A name for the place `place` has a backslash or a character that isn't ASCII. It is of bind_anywhere, and of steady."""
 
     number = 19
     place: int
@@ -469,5 +490,6 @@ _ERRORS: dict[int, type[Error]] = {
         FragmentError,
         BackslashError,
         UnsteadyFragmentError,
+        UnbracketedError,
     )
 }

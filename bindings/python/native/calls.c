@@ -43,6 +43,23 @@ static bytes query_of(const question *question)
     return query;
 }
 
+/* Whether a query is ASCII without a backslash. */
+static bool is_steady(bytes query)
+{
+    for (size_t i = 0; i < query.len; i++)
+        if (query.at[i] >= 128 || query.at[i] == '\\')
+            return false;
+    return true;
+}
+
+bool take_call_to_send(PyObject *query, PyObject *wants_steady, enum call *call)
+{
+    const question question = {.query = query};
+    int wanted = PyObject_IsTrue(wants_steady);
+    *call = wanted > 0 ? CALL_ANYWHERE : is_steady(query_of(&question)) ? CALL_GUARDED : CALL_BIND;
+    return wanted >= 0;
+}
+
 /* Asks in a mode, by the table if there is one. */
 static int32_t ask_in_mode(const question *q, bytes query, uint8_t *room, size_t len, mysql_params_report *report)
 {
@@ -52,6 +69,14 @@ static int32_t ask_in_mode(const question *q, bytes query, uint8_t *room, size_t
         return mysql_params_bind_template_wide(query.at, query.len, &q->table->head, q->table->places,
                                                (size_t)q->table->count, q->form, q->form_len, q->mode, room, len, report);
     return mysql_params_bind_wide(query.at, query.len, q->form, q->form_len, q->mode, room, len, report);
+}
+
+/* Asks for guarded literals, and for plain ones if a name isn't steady. */
+static int32_t ask_guarded(const question *q, bytes query, uint8_t *room, size_t len, mysql_params_report *report)
+{
+    int32_t number =
+        mysql_params_bind_fragments_guarded_wide(query.at, query.len, q->form, q->form_len, q->mode, room, len, report);
+    return number == MYSQL_PARAMS_UNSTEADY_FRAGMENT ? ask_in_mode(q, query, room, len, report) : number;
 }
 
 /* Asks the archive. It calls nothing of Python. */
@@ -66,6 +91,8 @@ static int32_t ask(const question *q, bytes query, uint8_t *room, size_t len, my
         if (q->is_fragments)
             return mysql_params_bind_fragments_anywhere_wide(query.at, query.len, q->form, q->form_len, room, len, report);
         return mysql_params_bind_anywhere_wide(query.at, query.len, q->form, q->form_len, room, len, report);
+    case CALL_GUARDED:
+        return ask_guarded(q, query, room, len, report);
     case CALL_BIND:
         break;
     }
@@ -96,7 +123,8 @@ PyObject *refuse(const native_state *state, const question *question, int32_t nu
     PyObject *told = report_of(report);
     if (told == NULL)
         return NULL;
-    PyObject *without_escapes = question->call == CALL_BIND && question->mode ? Py_True : Py_False;
+    bool has_mode = question->call == CALL_BIND || question->call == CALL_GUARDED;
+    PyObject *without_escapes = has_mode && question->mode ? Py_True : Py_False;
     PyObject *error = PyObject_CallFunction(state->handed[HANDED_REFUSAL], "iOOy#O", (int)number, told, question->query,
                                             (const char *)question->form, (Py_ssize_t)question->form_len, without_escapes);
     Py_DECREF(told);

@@ -7,11 +7,12 @@
 
 static const char *const HANDED_NAMES[HANDED_COUNT] = {
     "value_form", "place_form", "item_form", "parameters", "name",      "bytes_of", "copy",      "refusal", "table_of",
-    "zone_of",    "flag",       "registered", "date",      "datetime",  "time",     "timedelta", "decimal", "lists",
+    "zone_of",    "flag",       "registered", "date",      "datetime",  "time",     "timedelta", "decimal", "in",
+    "lists",
 };
 
 static const char *const ATTRIBUTE_NAMES[ATTRIBUTE_COUNT] = {
-    "year", "month", "day", "hour", "minute", "second", "microsecond", "tzinfo", "days", "seconds", "microseconds",
+    "year", "month", "day", "hour", "minute", "second", "microsecond", "tzinfo", "days", "seconds", "microseconds", "items",
 };
 
 native_state *state_of(PyObject *module)
@@ -161,18 +162,13 @@ static PyObject *native_bind(PyObject *module, PyObject *arguments)
     return text;
 }
 
-/* The text of a query, a form that is written and a mode; a fourth argument says whether the form may have fragments. */
-static PyObject *text_of_form(PyObject *module, PyObject *arguments, Py_ssize_t count)
+/* The answer to a question about a query, which has a table if it is kept of it, with a form that is handed in and a mode. */
+static PyObject *answer_about(const native_state *state, question *question, PyObject *query, PyObject *form, PyObject *mode)
 {
-    PyObject *taken[4], *kept = NULL, *text = NULL;
-    native_state *state = state_of(module);
-    question question = {.call = CALL_BIND};
-    if (state == NULL || !take_arguments(arguments, count, taken))
-        return NULL;
-    question.is_fragments = count == 4 && taken[3] == Py_True;
-    if (ask_about(state, &question, taken[0], taken[2], &kept))
-        text = answer_of_form(state, &question, taken[1], taken[2]);
-    Py_XDECREF(question.query);
+    PyObject *kept = NULL, *text = NULL;
+    if (ask_about(state, question, query, mode, &kept))
+        text = answer_of_form(state, question, form, mode);
+    Py_XDECREF(question->query);
     Py_XDECREF(kept);
     return text;
 }
@@ -180,13 +176,34 @@ static PyObject *text_of_form(PyObject *module, PyObject *arguments, Py_ssize_t 
 /* bind_form(query, form, mode) */
 static PyObject *native_bind_form(PyObject *module, PyObject *arguments)
 {
-    return text_of_form(module, arguments, 3);
+    PyObject *taken[3];
+    native_state *state = state_of(module);
+    question question = {.call = CALL_BIND};
+    if (state == NULL || !take_arguments(arguments, 3, taken))
+        return NULL;
+    return answer_about(state, &question, taken[0], taken[1], taken[2]);
 }
 
-/* bind_written(query, form, mode, is_fragments): a form that `written` made */
+/* bind_written(query, form, mode, is_fragments, steady): the text to send of a form that `written` made, with steady literals or
+ * with guarded ones */
 static PyObject *native_bind_written(PyObject *module, PyObject *arguments)
 {
-    return text_of_form(module, arguments, 4);
+    PyObject *taken[5];
+    native_state *state = state_of(module);
+    question question = {.call = CALL_BIND};
+    if (state == NULL || !take_arguments(arguments, 5, taken))
+        return NULL;
+    if (!PyBytes_Check(taken[0])) {
+        PyErr_SetString(PyExc_TypeError, "a query of bytes is wanted");
+        return NULL;
+    }
+    if (!take_call_to_send(taken[0], taken[4], &question.call))
+        return NULL;
+    question.is_fragments = taken[3] == Py_True;
+    if (question.call == CALL_BIND)
+        return answer_about(state, &question, taken[0], taken[1], taken[2]);
+    question.query = taken[0];
+    return answer_of_form(state, &question, taken[1], taken[2]);
 }
 
 /* Binds parameters to a query without a mode: query, params, zone. */

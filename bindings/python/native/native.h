@@ -54,11 +54,12 @@ enum handed {
     HANDED_TIME,
     HANDED_TIMEDELTA,
     HANDED_DECIMAL,
+    HANDED_IN,
     HANDED_LISTS,
     HANDED_COUNT
 };
 
-/* Attributes that are read of dates and times, in the order of ATTRIBUTE_NAMES. */
+/* Attributes that are read of dates, times and In, in the order of ATTRIBUTE_NAMES. */
 enum attribute {
     ATTRIBUTE_YEAR,
     ATTRIBUTE_MONTH,
@@ -71,6 +72,7 @@ enum attribute {
     ATTRIBUTE_DAYS,
     ATTRIBUTE_SECONDS,
     ATTRIBUTE_MICROSECONDS,
+    ATTRIBUTE_ITEMS,
     ATTRIBUTE_COUNT
 };
 
@@ -133,7 +135,8 @@ enum {
     TYPE_NUMBER = 128,
     TYPE_LIST = 129,
     TYPE_ROWS = 130,
-    TYPE_ASSIGNMENTS = 135,
+    TYPE_IMPLICIT_LIST = 136,
+    TYPE_IMPLICIT_ROWS = 137,
     TYPE_VAR_STRING = 253
 };
 
@@ -163,8 +166,9 @@ bool write_value(const writer *writer, PyObject *value, const place *place);
 /* Appends the count of items, and these. */
 bool write_items(const writer *writer, PyObject *items, const place *place);
 
-/* Appends a list or rows, of a list or a tuple; what may be identifiers is for Python. */
-outcome write_list(const writer *writer, PyObject *value, const place *place);
+/* Appends a list or rows, of a list or a tuple, implicit ones unless the caller said that it is several values; what may be
+ * identifiers is for Python. */
+outcome write_list(const writer *writer, PyObject *value, bool is_implicit, const place *place);
 
 /* Appends a date, a datetime, a span or a time of day, of just these types. */
 outcome write_moment(const writer *writer, PyObject *value);
@@ -195,6 +199,7 @@ PyObject *table_new(const native_state *state, PyObject *query, bool mode);
 enum call {
     CALL_NAMES,
     CALL_BIND,
+    CALL_GUARDED, /* of a steady query: guarded literals for the mode, and plain ones if a name isn't steady */
     CALL_ANYWHERE,
     CALL_BOTH_MODES
 };
@@ -208,6 +213,10 @@ typedef struct question {
     bool is_fragments;
     bool mode; /* without backslash escapes */
 } question;
+
+/* Takes what gives the text to send of a query, which is bytes: the call for steady literals if these are wanted, else that for
+ * guarded ones if the query is steady, and else that for plain ones. */
+bool take_call_to_send(PyObject *query, PyObject *wants_steady, enum call *call);
 
 /* The whole answer to a question, as bytes. */
 PyObject *answer(const native_state *state, const question *question);

@@ -90,11 +90,11 @@ static Py_ssize_t count_rows(const native_state *state, PyObject *items, Py_ssiz
     return rows;
 }
 
-/* Appends a tuple's items as rows. */
-static bool write_rows(const writer *writer, PyObject *rows, const place *place)
+/* Appends a tuple's items as rows, of one of the two types. */
+static bool write_rows(const writer *writer, uint8_t type, PyObject *rows, const place *place)
 {
     Py_ssize_t count = PyTuple_Size(rows);
-    if (!append_head(writer->form, TYPE_ROWS, (size_t)count))
+    if (!append_head(writer->form, type, (size_t)count))
         return false;
     for (Py_ssize_t i = 0; i < count; i++) {
         if (!write_items(writer, PyTuple_GetItem(rows, i), place))
@@ -103,20 +103,20 @@ static bool write_rows(const writer *writer, PyObject *rows, const place *place)
     return true;
 }
 
-/* Appends a tuple's items as a list. */
-static bool write_list_of(const writer *writer, PyObject *items, const place *place)
+/* Appends a tuple's items as a list, of one of the two types. */
+static bool write_list_of(const writer *writer, uint8_t type, PyObject *items, const place *place)
 {
     uint8_t *at = form_more(writer->form, 2);
     if (at == NULL)
         return false;
-    at[0] = TYPE_LIST;
+    at[0] = type;
     at[1] = 0;
     struct writer inner = *writer;
     inner.level = LEVEL_ITEMS;
     return write_tuple(&inner, items, place);
 }
 
-outcome write_list(const writer *writer, PyObject *value, const place *place)
+outcome write_list(const writer *writer, PyObject *value, bool is_implicit, const place *place)
 {
     PyObject *items = PySequence_Tuple(value);
     if (items == NULL)
@@ -127,7 +127,8 @@ outcome write_list(const writer *writer, PyObject *value, const place *place)
     outcome done = rows < 0 || first < 0 ? FAILED : FOR_PYTHON;
     if (done == FOR_PYTHON && first == 0 && count <= UINT32_MAX && (rows == 0 || rows == count)) {
         writer->form->is_fragments = true;
-        bool written = rows == 0 ? write_list_of(writer, items, place) : write_rows(writer, items, place);
+        bool written = rows == 0 ? write_list_of(writer, is_implicit ? TYPE_IMPLICIT_LIST : TYPE_LIST, items, place)
+                                 : write_rows(writer, is_implicit ? TYPE_IMPLICIT_ROWS : TYPE_ROWS, items, place);
         done = written ? WRITTEN : FAILED;
     }
     Py_DECREF(items);

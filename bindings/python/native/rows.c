@@ -18,6 +18,7 @@ typedef struct binder {
     const native_state *state; /* borrowed */
     PyObject *query;           /* borrowed, bytes */
     PyObject *texts;           /* borrowed, a list: those of the rows that are bound */
+    enum call call;            /* what gives the text of a row */
     bool mode;
     form forms; /* owned; of the rows that wait, each as a length-encoded string */
     size_t count;  /* rows that wait */
@@ -30,7 +31,7 @@ typedef struct binder {
 /* What is asked for the row whose form stands somewhere. */
 static question question_of(const binder *binder, const uint8_t *form, size_t len, bool is_fragments)
 {
-    question question = {CALL_BIND, binder->query, NULL, form, len, is_fragments, binder->mode};
+    question question = {binder->call, binder->query, NULL, form, len, is_fragments, binder->mode};
     return question;
 }
 
@@ -50,20 +51,59 @@ static bool next_string(const uint8_t *bytes, size_t len, size_t *begin, size_t 
     return found <= len - *begin;
 }
 
-/* Appends the texts of which an answer is a row. */
-static bool append_texts(const binder *binder, size_t written)
+/* Takes the form of the row that stands first off those of rows, as next_string. */
+static bool next_form(const uint8_t *forms, size_t len, size_t *begin, size_t *end)
 {
-    size_t begin, end;
+    if (next_string(forms, len, begin, end))
+        return true;
+    PyErr_SetString(PyExc_RuntimeError, "the archive says that it read more than the forms of the rows");
+    return false;
+}
+
+/* Appends the text of a row, if there is one. */
+static bool append_text(const binder *binder, PyObject *text)
+{
+    int status = text == NULL ? -1 : PyList_Append(binder->texts, text);
+    Py_XDECREF(text);
+    return status == 0;
+}
+
+/* The mode in which rows are bound together. A plain literal without escapes is the guarded one of either mode, unless a backslash
+ * stands in it; one with escapes has a backslash for each quote too. */
+static bool mode_of_rows(const binder *binder)
+{
+    return binder->call == CALL_GUARDED || binder->mode;
+}
+
+/* The guarded text of a row, of which the text with plain literals stands there. */
+static PyObject *guarded_text(const binder *binder, const uint8_t *text, size_t text_len, const uint8_t *form, size_t form_len)
+{
+    if (memchr(text, '\\', text_len) == NULL)
+        return PyBytes_FromStringAndSize((const char *)text, (Py_ssize_t)text_len);
+    question question = question_of(binder, form, form_len, false);
+    return answer(binder->state, &question);
+}
+
+/* Appends the texts of which an answer is a row, for the rows whose forms stand there. */
+static bool append_texts(const binder *binder, size_t written, const uint8_t *forms, size_t len)
+{
+    size_t begin, end, form_begin, form_end;
     for (size_t at = 0; at < written; at += end) {
         if (!next_string(binder->room + at, written - at, &begin, &end)) {
             PyErr_SetString(PyExc_RuntimeError, "the answer of the archive is no row of strings");
             return false;
         }
-        PyObject *text = PyBytes_FromStringAndSize((const char *)binder->room + at + begin, (Py_ssize_t)(end - begin));
-        int status = text == NULL ? -1 : PyList_Append(binder->texts, text);
-        Py_XDECREF(text);
-        if (status != 0)
+        const uint8_t *text = binder->room + at + begin;
+        if (binder->call != CALL_GUARDED) {
+            if (!append_text(binder, PyBytes_FromStringAndSize((const char *)text, (Py_ssize_t)(end - begin))))
+                return false;
+            continue;
+        }
+        if (!next_form(forms, len, &form_begin, &form_end) ||
+            !append_text(binder, guarded_text(binder, text, end - begin, forms + form_begin, form_end - form_begin)))
             return false;
+        forms += form_end;
+        len -= form_end;
     }
     return true;
 }
@@ -86,8 +126,8 @@ static int32_t bind_some(binder *binder, const uint8_t *forms, size_t len, mysql
     const uint8_t *query = (const uint8_t *)PyBytes_AsString(binder->query);
     size_t query_len = (size_t)PyBytes_Size(binder->query);
     PyThreadState *save = binder->room_len > KEPT_ROOM ? PyEval_SaveThread() : NULL;
-    int32_t number = mysql_params_bind_rows_wide(query, query_len, forms, len, binder->mode, binder->room, binder->room_len,
-                                                 rows, report);
+    int32_t number = mysql_params_bind_rows_wide(query, query_len, forms, len, mode_of_rows(binder), binder->room,
+                                                 binder->room_len, rows, report);
     if (save != NULL)
         PyEval_RestoreThread(save);
     return number;
@@ -98,10 +138,8 @@ static bool refuse_row(const binder *binder, int32_t number, const uint8_t *form
                        const mysql_params_report *report)
 {
     size_t begin, end;
-    if (!next_string(forms, len, &begin, &end)) {
-        PyErr_SetString(PyExc_RuntimeError, "the archive says that it read more than the forms of the rows");
+    if (!next_form(forms, len, &begin, &end))
         return false;
-    }
     question question = question_of(binder, forms + begin, end - begin, false);
     return refuse(binder->state, &question, number, report) != NULL;
 }
@@ -120,7 +158,7 @@ static bool bind_forms(binder *binder, size_t len)
                          binder->room_len);
             return false;
         }
-        if (!append_texts(binder, rows.written))
+        if (!append_texts(binder, rows.written, binder->forms.bytes + read, rows.read))
             return false;
         if (number == MYSQL_PARAMS_DONE)
             return true;
@@ -189,20 +227,19 @@ static bool let_others_run(binder *binder)
     return true;
 }
 
-/* Binds a row by itself, whose form stands behind those that wait and is for the calls that bind fragments. */
+/* Binds a row by itself, whose form stands behind those that wait. */
 static bool bind_alone(binder *binder, size_t begin)
 {
     if (!bind_waiting(binder, begin))
         return false;
-    question question = question_of(binder, binder->forms.bytes + begin + 1, binder->forms.len - begin - 1, true);
-    PyObject *text = answer(binder->state, &question);
-    int status = text == NULL ? -1 : PyList_Append(binder->texts, text);
-    Py_XDECREF(text);
+    const uint8_t *at = binder->forms.bytes + begin + 1;
+    question question = question_of(binder, at, binder->forms.len - begin - 1, binder->forms.is_fragments);
+    bool done = append_text(binder, answer(binder->state, &question));
     binder->forms.len = 0;
-    return status == 0 && let_others_run(binder);
+    return done && let_others_run(binder);
 }
 
-/* Has a row wait, and binds those that wait if they are many. */
+/* Has a row wait, and binds those that wait if they are many. What no call for many rows binds is bound by itself. */
 static bool add_row(binder *binder, const writer *writer, PyObject *row)
 {
     size_t begin = binder->forms.len;
@@ -213,7 +250,7 @@ static bool add_row(binder *binder, const writer *writer, PyObject *row)
         bind_before(binder, begin, is_of_parameters());
         return false;
     }
-    if (binder->forms.is_fragments)
+    if (binder->forms.is_fragments || binder->call == CALL_ANYWHERE)
         return bind_alone(binder, begin);
     if (!form_enclose(&binder->forms, begin))
         return false;
@@ -244,24 +281,28 @@ static bool bind_all(binder *binder, const writer *writer, PyObject *rows)
     return done && bind_waiting(binder, binder->forms.len);
 }
 
-/* Binds rows: a query, which is bytes, the rows, the mode, a zone, whether places take more than values, and a list of texts,
- * which gets those of the rows up to the first that is refused. */
+/* Binds rows: a query, which is bytes, the rows, the mode, a zone, whether the texts are to be sent, with steady literals or with
+ * guarded ones, and a list of texts, which gets those of the rows up to the first that is refused. What is sent takes more than
+ * values. */
 PyObject *native_bind_rows(PyObject *module, PyObject *arguments)
 {
-    PyObject *taken[6];
+    PyObject *taken[7];
     native_state *state = state_of(module);
-    binder binder = {.state = state};
-    if (state == NULL || !take_arguments(arguments, 6, taken) || !take_mode(state, taken[2], &binder.mode))
+    binder binder = {.state = state, .call = CALL_BIND};
+    if (state == NULL || !take_arguments(arguments, 7, taken) || !take_mode(state, taken[2], &binder.mode))
         return NULL;
-    if (!PyBytes_Check(taken[0]) || !PyList_Check(taken[5])) {
+    if (!PyBytes_Check(taken[0]) || !PyList_Check(taken[6])) {
         PyErr_SetString(PyExc_TypeError, "a query of bytes and a list of texts are wanted");
         return NULL;
     }
+    bool is_sent = taken[4] == Py_True;
+    if (is_sent && !take_call_to_send(taken[0], taken[5], &binder.call))
+        return NULL;
     binder.query = taken[0];
-    binder.texts = taken[5];
+    binder.texts = taken[6];
     binder.most = 1 + MOST_QUERIES / ((size_t)PyBytes_Size(taken[0]) + 1);
     form_begin(&binder.forms);
-    const writer writer = {state, &binder.forms, taken[3], taken[4] == Py_True ? LEVEL_PLACES : LEVEL_VALUES};
+    const writer writer = {state, &binder.forms, taken[3], is_sent ? LEVEL_PLACES : LEVEL_VALUES};
     bool done = bind_all(&binder, &writer, taken[1]);
     form_free(&binder.forms);
     free(binder.room);
@@ -273,18 +314,35 @@ PyObject *native_bind_rows(PyObject *module, PyObject *arguments)
 /* How many bytes more than twice those of its form the number of a double has, which is up to 27 bytes long. */
 enum { MORE_OF_DOUBLE = 7 };
 
+/* So many has the literal of a text: `_utf8mb4 0x` has eleven, and the form of a text three beside its bytes. */
+enum { MORE_OF_TEXT = 5 };
+
+/* So many has a backslash after a byte from 128 on, which is written in five: the letter before it has two bytes or more. */
+enum { MORE_OF_BACKSLASH = 1 };
+
 /* What a literal of a row has beside it: a comma and a space. A row has brackets and a comma too, for which the four bytes of its
  * count do. */
 enum { BESIDE_LITERAL = 2 };
 
-/* How long what is written of a row is at most, for one mode, by its form of so many items. A literal has at most twice the bytes
- * of its form. What looks like the head of a double counts as one. */
-static size_t longest_row(const form *form, size_t items)
+/* How many bytes more than twice those of their form the backslashes have. */
+static size_t more_of_backslashes(const form *form)
 {
     size_t more = 0;
+    const uint8_t *end = form->bytes + form->len;
+    for (const uint8_t *at = form->bytes; (at = memchr(at, '\\', (size_t)(end - at))) != NULL; at++)
+        more += at > form->bytes && at[-1] >= 128 ? MORE_OF_BACKSLASH : 0;
+    return more;
+}
+
+/* How long what is written of a row is at most, in each mode and form of literals, by its form of so many items. A literal has at most
+ * twice the bytes of its form, and more as above. What only looks like the head of a double, or like such a backslash, counts as one;
+ * what is one adds fewer bytes in all than the form has. */
+static size_t longest_row(const form *form, size_t items)
+{
+    size_t more = more_of_backslashes(form);
     for (size_t i = 0; i + 1 < form->len; i++)
         more += form->bytes[i] == TYPE_DOUBLE && form->bytes[i + 1] == 0 ? MORE_OF_DOUBLE : 0;
-    return 2 * form->len + (more < form->len ? more : form->len) + BESIDE_LITERAL * items;
+    return 2 * form->len + (more < form->len ? more : form->len) + (MORE_OF_TEXT + BESIDE_LITERAL) * items;
 }
 
 /* The count of a row's items and these, as the calls that bind fragments take a row, and how long what is written of it is at most:

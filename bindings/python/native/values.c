@@ -122,6 +122,15 @@ static outcome write_decimal(form *form, PyObject *value)
     return done;
 }
 
+/* Writes the items of an In. */
+static outcome write_in(const writer *writer, PyObject *value, const place *place)
+{
+    PyObject *items = PyObject_GetAttr(value, writer->state->attributes[ATTRIBUTE_ITEMS]);
+    outcome done = items == NULL ? FAILED : write_list(writer, items, false, place);
+    Py_XDECREF(items);
+    return done;
+}
+
 /* Writes a value of a type that may be registered. */
 static outcome write_further(const writer *writer, PyObject *value, const place *place)
 {
@@ -130,7 +139,8 @@ static outcome write_further(const writer *writer, PyObject *value, const place 
     bool is_list = type == &PyList_Type || type == &PyTuple_Type;
     bool is_decimal = (PyObject *)type == handed[HANDED_DECIMAL];
     bool is_time = (PyObject *)type == handed[HANDED_TIME];
-    if (!is_list && !is_decimal && !is_time)
+    bool is_in = (PyObject *)type == handed[HANDED_IN];
+    if (!is_list && !is_decimal && !is_time && !is_in)
         return write_moment(writer, value);
     int registered = PyDict_Contains(handed[HANDED_REGISTERED], (PyObject *)type);
     if (registered != 0)
@@ -139,7 +149,11 @@ static outcome write_further(const writer *writer, PyObject *value, const place 
         return write_moment(writer, value);
     if (is_decimal && writer->level != LEVEL_VALUES)
         return write_decimal(writer->form, value);
-    return is_list && writer->level == LEVEL_PLACES ? write_list(writer, value, place) : FOR_PYTHON;
+    if (writer->level != LEVEL_PLACES)
+        return FOR_PYTHON;
+    if (is_in)
+        return write_in(writer, value, place);
+    return is_list ? write_list(writer, value, true, place) : FOR_PYTHON;
 }
 
 /* Writes a value, unless it is for Python. */
@@ -164,7 +178,7 @@ static bool is_of_fragments(const uint8_t *bytes, Py_ssize_t len)
 {
     double number;
     if (len != 10 || bytes[0] != TYPE_DOUBLE)
-        return len > 0 && bytes[0] >= TYPE_NUMBER && bytes[0] <= TYPE_ASSIGNMENTS;
+        return len > 0 && bytes[0] >= TYPE_NUMBER && bytes[0] <= TYPE_IMPLICIT_ROWS;
     memcpy(&number, bytes + 2, 8);
     return isfinite(number);
 }

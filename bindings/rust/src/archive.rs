@@ -407,6 +407,11 @@ impl Call<'_> {
             }
             18 => Error::Backslash { position },
             19 => Error::UnsteadyFragment { place, name: None },
+            21 => Error::Unbracketed {
+                place,
+                position,
+                name: Name::of_any(words::name_of_place(self.query(), position))?,
+            },
             _ => return Err(Error::UnknownAnswer { number }),
         })
     }

@@ -147,6 +147,17 @@ pub enum Error {
         /// The name that stands in that place; none for a `?`.
         name: Option<String>,
     },
+    /// An implicit list or rows (types 136 and 137 of mysql_params.h) could become several arguments of what stands around
+    /// the place. No fragment is written so: [`Fragment::List`](crate::Fragment::List) and
+    /// [`Fragment::Rows`](crate::Fragment::Rows) say what they are.
+    Unbracketed {
+        /// Number of the place.
+        place: usize,
+        /// Byte of the query at which the place begins.
+        position: usize,
+        /// The name that stands there; none for a `?`.
+        name: Option<Name>,
+    },
     /// The archive answered what this crate doesn't know: it is not the archive that this crate was written for.
     UnknownAnswer {
         /// The number that it returned.
@@ -209,6 +220,7 @@ impl Error {
             Error::Fault { .. } => 17,
             Error::Backslash { .. } => 18,
             Error::UnsteadyFragment { .. } => 19,
+            Error::Unbracketed { .. } => 21,
             Error::UnknownAnswer { number } => *number,
         })
     }
@@ -332,6 +344,15 @@ impl fmt::Display for Error {
             Error::UnsteadyFragment { place, name } => {
                 let of = For(name, *place);
                 write!(f, "A name{of} has a backslash or a byte that is not ASCII")
+            }
+            Error::Unbracketed { position, name, .. } => {
+                const GIVEN: &str =
+                    " is one value here, and was given a list: write it alone in brackets, as";
+                match name {
+                    Some(name) => write!(f, "`:{name}`{GIVEN} `IN (:{name})`"),
+                    None => write!(f, "`?` at byte {position}{GIVEN} `IN (?)`"),
+                }?;
+                write!(f, ", or give Fragment::List")
             }
             Error::UnknownAnswer { number } => write!(f, "Unknown answer {number} of the archive"),
         }

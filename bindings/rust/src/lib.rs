@@ -260,7 +260,7 @@ pub fn bind_fragments_in(
     Call::BindFragments { query, form }.whole_answer(no_backslash_escape, guess)
 }
 
-/// As [`bind`], with a text that depends on no connection: no `sql_mode` and no character set reads it otherwise, on MySQL
+/// As [`bind`], with a text that depends on no connection: no `sql_mode` and no character set moves a literal's end, on MySQL
 /// or MariaDB. The query has to be ASCII without a backslash, also in its comments, and portable.
 ///
 /// A text of printable ASCII without a backslash is written as `_utf8mb4'it''s'`, other UTF-8 as `_utf8mb4 0xC3A9`, and
@@ -304,7 +304,7 @@ pub fn bind_fragments_anywhere(query: &[u8], fragments: &Fragments<'_>) -> Resul
     Call::BindFragmentsAnywhere { query, form }.whole_answer(false, guess)
 }
 
-/// As [`bind_anywhere`], of a query that may have bytes from 128 on: no `sql_mode` reads the text otherwise, on MySQL or
+/// As [`bind_anywhere`], of a query that may have bytes from 128 on: no `sql_mode` moves a literal's end, on MySQL or
 /// MariaDB. The connection's character set has to be that of the query's bytes, utf8mb4 for UTF-8. No string of the query
 /// may hold a backslash, nor a text in `"`.
 ///

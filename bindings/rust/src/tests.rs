@@ -355,3 +355,117 @@ fn forms_of_assignments() {
         Ok(wanted.concat())
     );
 }
+
+/// A form of a list or rows of 1 and 2, or 1 and (2), of a type, for a name or a mark.
+fn form_of_two(column_type: u8, name: &str) -> Vec<u8> {
+    let item = |number| [8, 0, number, 0, 0, 0, 0, 0, 0, 0];
+    let row = [1, 0, 0, 0];
+    let rows = match column_type {
+        ROWS | IMPLICIT_ROWS => &row[..],
+        _ => &[],
+    };
+    let start = [
+        &[name.len() as u8],
+        name.as_bytes(),
+        &[column_type, 0, 2, 0, 0, 0],
+    ]
+    .concat();
+    [&start[..], rows, &item(1), rows, &item(2)].concat()
+}
+
+const LIST: u8 = 129;
+const ROWS: u8 = 130;
+const IMPLICIT_LIST: u8 = 136;
+const IMPLICIT_ROWS: u8 = 137;
+
+/// What both calls that bind fragments say of a query with a form.
+fn bind_form_of_fragments(query: &str, form: &[u8]) -> Result<String, Error> {
+    let query = query.as_bytes();
+    let text = Call::BindFragments { query, form }.whole_answer(false, 64);
+    let anywhere = Call::BindFragmentsAnywhere { query, form }.whole_answer(false, 64);
+    assert_eq!(text, anywhere, "{query:?}");
+    text.map(|text| String::from_utf8(text).expect("UTF-8"))
+}
+
+#[test]
+fn implicit_lists() {
+    let both = [
+        (LIST, "1, 2"),
+        (IMPLICIT_LIST, "1, 2"),
+        (ROWS, "(1), (2)"),
+        (IMPLICIT_ROWS, "(1), (2)"),
+    ];
+    for query in [
+        "a IN (:v)",
+        "a NOT IN( /* c */ :v\n)",
+        "(a, b) = (:v)",
+        "VALUES (:v)",
+    ] {
+        for (column_type, written) in both {
+            let text = bind_form_of_fragments(query, &form_of_two(column_type, "v"));
+            assert_eq!(text, Ok(query.replace(":v", written)), "{query}");
+        }
+    }
+    for (query, position) in [
+        ("JSON_SET(a, '$.b', :v)", 19),
+        ("COALESCE(:v, 0)", 9),
+        ("LIMIT :v", 6),
+        ("a IN (0, :v)", 9),
+    ] {
+        for (column_type, written) in both {
+            let text = bind_form_of_fragments(query, &form_of_two(column_type, "v"));
+            let name = Some(b"v".to_vec().into());
+            let wanted = match column_type {
+                LIST | ROWS => Ok(query.replace(":v", written)),
+                _ => Err(Error::Unbracketed {
+                    place: 0,
+                    position,
+                    name,
+                }),
+            };
+            assert_eq!(text, wanted, "{query}");
+        }
+    }
+    let values = |column_type| bind_form_of_fragments("VALUES ?", &form_of_two(column_type, ""));
+    assert_eq!(values(IMPLICIT_ROWS), Ok("VALUES (1), (2)".to_string()));
+    let error = values(IMPLICIT_LIST).expect_err("a list is no rows");
+    assert_eq!(
+        error,
+        Error::Unbracketed {
+            place: 0,
+            position: 7,
+            name: None
+        }
+    );
+}
+
+#[test]
+fn messages_of_implicit_lists() {
+    let is_one = |place: &str, list: &str| {
+        format!(
+            "{place} is one value here, and was given a list: write it alone in brackets, as `{list}`, or give Fragment::List"
+        )
+    };
+    let form = b"";
+    for (query, position, message) in [
+        (&b"LIMIT :Ids"[..], 6, is_one("`:Ids`", "IN (:Ids)")),
+        (b"LIMIT 1, ?", 9, is_one("`?` at byte 9", "IN (?)")),
+        (
+            b"",
+            usize::MAX,
+            is_one(&format!("`?` at byte {}", usize::MAX), "IN (?)"),
+        ),
+    ] {
+        let report = Report {
+            place: 3,
+            position,
+            ..Report::default()
+        };
+        let error = Call::BindFragments { query, form }.error(21, &report);
+        assert!(
+            matches!(error, Error::Unbracketed { place: 3, .. }),
+            "{error:?}"
+        );
+        assert_eq!((error.number(), error.to_string()), (Some(21), message));
+    }
+}

@@ -92,7 +92,7 @@ fn structs_of_the_header() {
 }
 
 /// The error of each refusal of the header that isn't the archive's own, by its name there.
-fn errors() -> [(&'static str, Error); 19] {
+fn errors() -> [(&'static str, Error); 20] {
     let (parameter, place, position, byte) = (0, 0, 0, 0);
     let (word, construct) = (None, Construct::Hint);
     let name = || b"a".to_vec().into();
@@ -185,6 +185,14 @@ fn errors() -> [(&'static str, Error); 19] {
         (
             "UNSTEADY_FRAGMENT",
             Error::UnsteadyFragment { place, name: None },
+        ),
+        (
+            "UNBRACKETED",
+            Error::Unbracketed {
+                place,
+                position,
+                name: None,
+            },
         ),
         ("OTHER_TABLE", Error::UnknownAnswer { number: 20 }),
     ]

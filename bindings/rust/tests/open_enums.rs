@@ -26,6 +26,7 @@ fn is_known_error(error: &Error) -> bool {
         | Error::Fault { .. }
         | Error::Backslash { .. }
         | Error::UnsteadyFragment { .. }
+        | Error::Unbracketed { .. }
         | Error::UnknownAnswer { .. } => true,
         _ => false,
     }
