@@ -21,7 +21,7 @@ fn wanted(asked: Asked) -> Vec<usize> {
         Asked::Names => vec![0, 2, 8],
         Asked::Bind => up_to(16).chain([18]).collect(),
         Asked::Rows => up_to(14).collect(),
-        Asked::Fragments => up_to(17).chain([19]).collect(),
+        Asked::Fragments => up_to(17).chain([19, 21]).collect(),
     }
 }
 

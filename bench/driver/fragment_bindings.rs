@@ -8,12 +8,51 @@ use crate::differences::Differences;
 use crate::random::Random;
 use crate::wide_names::WideNames;
 use plain::all_fragments::{
-    self, ASSIGNMENTS, DECIMAL, Fragment, Given, IDENTIFIER, IDENTIFIERS, Item, KEYWORD, KEYWORDS,
-    LIST, Names, QUALIFIED, ROWS,
+    self, ASSIGNMENTS, DECIMAL, Fragment, Given, IDENTIFIER, IDENTIFIERS, IMPLICIT_LIST,
+    IMPLICIT_ROWS, Item, KEYWORD, KEYWORDS, LIST, Names, QUALIFIED, ROWS,
 };
+use plain::query::next_place;
 use plain::search::Table;
 
 const NO_KEYWORDS: [&[u8]; 5] = [b"NULLS LAST", b"WHERE", b"is null", b"ASC  ", b"OR 1=1"];
+
+/// What may stand before a place, and after it: the brackets and words of a list, and others like them.
+const BEFORE: [&[u8]; 32] = [
+    b"IN (",
+    b"a in(",
+    b"iN /* c */ (-- x\n",
+    b"VALUES (",
+    b" value\t# (\n(",
+    b"VALUES ",
+    b"value/**/",
+    b" row(",
+    b"(",
+    b"IN ((",
+    b"(1), (",
+    b"= ( ",
+    b"<(",
+    b">\n(",
+    b"f(",
+    b"a IN (0, ",
+    b"@in (",
+    b" t.values ",
+    b"`in` (",
+    b"'a'in(",
+    b"\xC3\xA9in (",
+    b"IN /*! x */ (",
+    b"IN /*M! x */ (",
+    b"t (a) VALUE (",
+    b") value/* c */ ",
+    b"CALL value(",
+    b"VALUES Row (",
+    b"), row(",
+    b"ROW(1) = row (",
+    b"a) <=> (",
+    b"(a) !=\n(",
+    b"a = (",
+];
+const AFTER: [&[u8]; 9] =
+    [b")", b" )", b"/* ) */\t)", b"-- )\n))", b"# )", b", 1)", b"/*! ) */", b"')'", b"/*M! */)"];
 
 /// How many items or names stand in a fragment at most, and how many rows.
 const MOST: usize = 4;
@@ -23,6 +62,7 @@ pub fn compare(count: u64, differences: &mut Differences) {
     let mut random = Random(20_261_126);
     for _ in 0..count {
         let query = bindings::query(&mut random);
+        let query = bracketed(&mut random, &query);
         let (form, given) = form(&mut random, &query);
         let read = all_fragments::read(&form);
         if let Some(given) = &given {
@@ -45,6 +85,27 @@ pub fn compare(count: u64, differences: &mut Differences) {
     }
 }
 
+/// The query with brackets and words at most of its places.
+fn bracketed(random: &mut Random, query: &[u8]) -> Vec<u8> {
+    let mut bracketed = Vec::new();
+    let mut copied = 0;
+    while let Some((start, end)) = next_place::<WideNames<Table>>(query, copied) {
+        bracketed.extend_from_slice(&query[copied..start]);
+        let has_brackets = !random.one_in(4);
+        if has_brackets {
+            bracketed.extend_from_slice(random.pick::<&[u8]>(&BEFORE));
+        }
+        bracketed.extend_from_slice(&query[start..end]);
+        if has_brackets {
+            let after = if random.one_in(3) { *random.pick::<&[u8]>(&AFTER) } else { b")" };
+            bracketed.extend_from_slice(after);
+        }
+        copied = end;
+    }
+    bracketed.extend_from_slice(&query[copied..]);
+    bracketed
+}
+
 /// Fragments in flat form, and as they are to be read if the form has no fault.
 fn form(random: &mut Random, query: &[u8]) -> (Vec<u8>, Option<Given>) {
     let mut form = Vec::new();
@@ -59,13 +120,13 @@ fn form(random: &mut Random, query: &[u8]) -> (Vec<u8>, Option<Given>) {
         });
         given.push((name, append_fragment(random, &mut form)));
     }
-    let bytes = [0xFB, 0xFF, 0xFC, 0xFE, 0, 1, 127, 128, 129, 130, 131, 132, 133, 134, 135, 136];
+    let bytes = [0xFB, 0xFF, 0xFC, 0xFE, 0, 1, 127, 128, 129, 130, 131, 132, 133, 134, 135, 136, 137, 138];
     is_faulty |= damage(random, &mut form, &bytes);
     (form, (!is_faulty).then_some(given))
 }
 
 fn append_fragment(random: &mut Random, form: &mut Vec<u8>) -> Fragment {
-    match random.below(14) {
+    match random.below(18) {
         0..=4 => Fragment::One(append_item(random, form)),
         5 | 6 => {
             append_type(random, form, LIST);
@@ -93,6 +154,14 @@ fn append_fragment(random: &mut Random, form: &mut Vec<u8>) -> Fragment {
             let count = append_count(random, form);
             let assignment = |_| (append_names(random, form), append_item(random, form));
             Fragment::Assignments((0..count).map(assignment).collect())
+        }
+        13 | 14 => {
+            append_type(random, form, IMPLICIT_LIST);
+            Fragment::ImplicitList(append_items(random, form))
+        }
+        15 | 16 => {
+            append_type(random, form, IMPLICIT_ROWS);
+            Fragment::ImplicitRows(append_rows(random, form))
         }
         _ => {
             append_type(random, form, KEYWORD);

@@ -3,10 +3,13 @@
 //! or rows.
 
 use crate::bind::{BindError, Name, stands_alone};
+use crate::brackets::{Implicit, first_unbracketed};
 use crate::form::{FormError, Rest};
 use crate::portable::first_unportable;
 use crate::query::{lowered, next_place};
-use crate::room::{FAULT, Report, UNSTEADY_FRAGMENT, bind_answer, fill_text, form_answer};
+use crate::room::{
+    FAULT, Report, UNBRACKETED, UNSTEADY_FRAGMENT, bind_answer, fill_text, form_answer,
+};
 use crate::search::Search;
 use crate::value::{Value, append_double, append_literal, append_steady_literal, finite_double};
 
@@ -18,6 +21,8 @@ pub const QUALIFIED: u8 = 132;
 pub const KEYWORD: u8 = 133;
 pub const IDENTIFIERS: u8 = 134;
 pub const ASSIGNMENTS: u8 = 135;
+pub const IMPLICIT_LIST: u8 = 136;
+pub const IMPLICIT_ROWS: u8 = 137;
 
 /// The keywords that bindings/c/mysql_params.h lists.
 pub const KEYWORDS: [&str; 33] = [
@@ -70,6 +75,9 @@ pub enum Fragment {
     One(Item),
     List(Vec<Item>),
     Rows(Vec<Vec<Item>>),
+    /// The same, which the program didn't say are such.
+    ImplicitList(Vec<Item>),
+    ImplicitRows(Vec<Vec<Item>>),
     /// A name, or names of which each has the next.
     Names(Names),
     Keyword(Vec<u8>),
@@ -160,13 +168,15 @@ fn read_next(rest: &mut Rest, given: &Given) -> Result<(Vec<u8>, Fragment), Form
 
 fn read_fragment(rest: &mut Rest) -> Result<Fragment, FormError> {
     let column = match rest.form.get(rest.at) {
-        Some(column @ LIST..=ASSIGNMENTS) => *column,
+        Some(column @ LIST..=IMPLICIT_ROWS) => *column,
         _ => return Ok(Fragment::One(read_item(rest)?)),
     };
     let _type_and_flags = rest.number(2)?;
     Ok(match column {
         LIST => Fragment::List(read_items(rest)?),
         ROWS => Fragment::Rows(counted(rest, read_items)?),
+        IMPLICIT_LIST => Fragment::ImplicitList(read_items(rest)?),
+        IMPLICIT_ROWS => Fragment::ImplicitRows(counted(rest, read_items)?),
         IDENTIFIER => Fragment::Names(vec![text(rest)?]),
         QUALIFIED => Fragment::Names(read_names(rest)?),
         KEYWORD => Fragment::Keyword(text(rest)?),
@@ -253,6 +263,10 @@ fn placed<'f, S: Search>(
     if let Some(place) = places.iter().position(has_neighbour) {
         return Err(bind_answer(&BindError::NotAlone { place, position: places[place].0 }));
     }
+    let implicit: Vec<Implicit> = placed.iter().map(|fragment| implicit(fragment)).collect();
+    if let Some((place, position)) = first_unbracketed::<S>(query, &implicit) {
+        return Err((UNBRACKETED, Report { place, position, ..Report::default() }));
+    }
     if let Some(place) = placed.iter().position(|fragment| has_float(fragment)) {
         return Err(bind_answer(&BindError::Float { place }));
     }
@@ -293,11 +307,19 @@ fn fragments_of<'f>(
     places.iter().enumerate().map(fragment).collect()
 }
 
+fn implicit(fragment: &Fragment) -> Implicit {
+    match fragment {
+        Fragment::ImplicitList(_) => Implicit::List,
+        Fragment::ImplicitRows(_) => Implicit::Rows,
+        _ => Implicit::No,
+    }
+}
+
 fn items(fragment: &Fragment) -> Vec<&Item> {
     match fragment {
         Fragment::One(item) => vec![item],
-        Fragment::List(items) => items.iter().collect(),
-        Fragment::Rows(rows) => rows.iter().flatten().collect(),
+        Fragment::List(items) | Fragment::ImplicitList(items) => items.iter().collect(),
+        Fragment::Rows(rows) | Fragment::ImplicitRows(rows) => rows.iter().flatten().collect(),
         Fragment::Assignments(assignments) => assignments.iter().map(|(_, item)| item).collect(),
         Fragment::Names(_) | Fragment::Keyword(_) | Fragment::Identifiers(_) => Vec::new(),
     }
@@ -326,9 +348,9 @@ fn has_float(fragment: &Fragment) -> bool {
 fn fault(fragment: &Fragment) -> Option<Fault> {
     match fragment {
         Fragment::One(item) => items_fault(0, std::slice::from_ref(item)),
-        Fragment::List(items) if items.is_empty() => Some((EMPTY, 0, 0)),
-        Fragment::List(items) => items_fault(0, items),
-        Fragment::Rows(rows) => match rows.first() {
+        Fragment::List(items) | Fragment::ImplicitList(items) if items.is_empty() => Some((EMPTY, 0, 0)),
+        Fragment::List(items) | Fragment::ImplicitList(items) => items_fault(0, items),
+        Fragment::Rows(rows) | Fragment::ImplicitRows(rows) => match rows.first() {
             None => Some((EMPTY, 0, 0)),
             Some(first) => {
                 let mut rows = rows.iter().enumerate();
@@ -431,8 +453,8 @@ fn written(
         text.extend_from_slice(&query[copied..*start]);
         text.extend(match fragment {
             Fragment::One(one) => item(one),
-            Fragment::List(items) => row(items),
-            Fragment::Rows(rows) => {
+            Fragment::List(items) | Fragment::ImplicitList(items) => row(items),
+            Fragment::Rows(rows) | Fragment::ImplicitRows(rows) => {
                 let rows = rows.iter().map(|items| [b"(", &row(items)[..], b")"].concat());
                 rows.collect::<Vec<_>>().join(&b", "[..])
             }

@@ -3,6 +3,7 @@
 
 pub mod all_fragments;
 pub mod bind;
+pub mod brackets;
 pub mod client;
 pub mod form;
 pub mod fragments;

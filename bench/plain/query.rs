@@ -50,12 +50,12 @@ pub fn next_place<S: Search>(query: &[u8], mut at: usize) -> Option<(usize, usiz
 }
 
 #[inline(always)]
-fn after(query: &[u8], at: usize, count: usize) -> usize {
+pub(crate) fn after(query: &[u8], at: usize, count: usize) -> usize {
     (at + count).min(query.len())
 }
 
 #[inline(always)]
-fn name_end<S: Search>(query: &[u8], from: usize) -> usize {
+pub(crate) fn name_end<S: Search>(query: &[u8], from: usize) -> usize {
     let is_capital = |byte: u8| S::WIDE_NAMES && byte.is_ascii_uppercase();
     match query.get(from) {
         Some(b'a'..=b'z' | b'_') => {}
@@ -84,7 +84,7 @@ pub fn lowered<S: Search>(query: &[u8]) -> Cow<'_, [u8]> {
 }
 
 #[inline(always)]
-fn string_end<S: Search>(query: &[u8], mut at: usize, quote: u8) -> usize {
+pub(crate) fn string_end<S: Search>(query: &[u8], mut at: usize, quote: u8) -> usize {
     if S::NO_BACKSLASH_ESCAPE {
         return after(query, S::byte(query, at, quote), 1);
     }

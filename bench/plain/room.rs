@@ -37,9 +37,10 @@ const UNPORTABLE: i32 = 16;
 pub const FAULT: i32 = 17;
 const BACKSLASH: i32 = 18;
 pub(crate) const UNSTEADY_FRAGMENT: i32 = 19;
+pub(crate) const UNBRACKETED: i32 = 21;
 
 /// The names of the numbers, from 0.
-pub const NUMBERS: [&str; 20] = [
+pub const NUMBERS: [&str; 22] = [
     "DONE",
     "OUT_OF_MEMORY",
     "ROOM",
@@ -60,6 +61,8 @@ pub const NUMBERS: [&str; 20] = [
     "FAULT",
     "BACKSLASH",
     "UNSTEADY_FRAGMENT",
+    "OTHER_TABLE",
+    "UNBRACKETED",
 ];
 
 #[inline(always)]

@@ -15,6 +15,7 @@ import drivers
 import exported
 import floats
 import fragments
+import guarded
 import handed_over
 import leaks
 import limits
@@ -65,6 +66,7 @@ def main(path: str, mysql_query: str, mysql_bind: str, folder: str) -> int:
     signs.run(tests, path)
     steady.run(tests, path, folder)
     steady_fragments.run(tests, path)
+    guarded.run(tests, path)
     again.run(tests, path, folder)
     rewritten.run(tests, path, folder)
     anew.run(tests, path, folder)

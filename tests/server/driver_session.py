@@ -9,6 +9,7 @@ import decimal
 import enum
 import importlib
 import sys
+import unittest.mock
 import uuid
 
 import mysql_params
@@ -118,6 +119,29 @@ def statements(session):
             session.run(f"SET sql_mode = '{again}'")
             come_back(session)
     session.run("SET sql_mode = ''")
+
+
+def another_mode(session):
+    """In another mode than the session told no value leaves its literal: a backslash in it may be two."""
+    ask = mysql_params._sending._ask
+    for sql_mode, told in (("", True), (NONE, False)):
+        session.run(f"SET sql_mode = '{sql_mode}'")
+        with unittest.mock.patch.object(
+            mysql_params._sending, "_ask", lambda connection: ask(connection)._replace(no_backslash_escape=told)
+        ):
+            for value in [*HOSTILE, "\\", "é\\' , 7 -- "]:
+                (row,) = session.rows("SELECT :a, ':a', :b", {"a": value, "b": 7}, always_ask=True)
+                same(row[0] in (value, value.replace("\\", "\\\\")) and row[1:], (":a", 7))
+        come_back(session)
+    session.run("SET sql_mode = DEFAULT")
+
+
+def steady(session):
+    """Steady texts come back as they are in each mode."""
+    for sql_mode in ("", NONE):
+        session.run(f"SET sql_mode = '{sql_mode}'")
+        same(session.rows("SELECT " + ", ".join("?" * len(HOSTILE)), iter(HOSTILE), steady=True), [tuple(HOSTILE)])
+    session.run("SET sql_mode = DEFAULT")
 
 
 def made_anew(session, driver):
@@ -278,6 +302,7 @@ def main(driver, path):
     come_back(session)
     types(session)
     modes(session)
+    steady(session)
     unportable(session)
     many(session)
     long_rows(session)
@@ -293,6 +318,7 @@ def main(driver, path):
         character_sets(session, driver)
         made_anew(session, driver)
     statements(session)
+    another_mode(session)
     print(f"{driver} {getattr(session.module, '__version__', '')}: {session.asked()} statements read")
 
 

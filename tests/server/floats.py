@@ -135,7 +135,7 @@ def _found(connection: Connection, kind: Kind, numbers: list) -> str:
     queries, texts, wanted = (b"x = :x", b"x IN (:x, :beside)", b"x IN (:both)", b"x IN (:beside)"), [], []
     for i in indices:
         beside = [kind.number(bits) for bits in (numbers[i] ^ 1, numbers[i] ^ 2) if kind.is_finite(bits)]
-        given = {"i": i, "x": kind.number(numbers[i]), "beside": beside, "both": [*beside, kind.number(numbers[i])]}
+        given = {"i": i, "x": kind.number(numbers[i]), "beside": mysql_params.In(beside), "both": [*beside, kind.number(numbers[i])]}
         query = b"SELECT " + b", ".join(queries) + b" FROM strings.numbers WHERE i = :i"
         texts.append(mysql_params.bind(query, given))
         # -0 and 0 are equal.
@@ -150,7 +150,7 @@ def _as_columns(connection: Connection, kind: Kind, numbers: list) -> str:
     """Items of a list are columns of an answer, each a DOUBLE of this value."""
     for begin in range(0, len(numbers), _ITEMS):
         batch = [kind.number(bits) for bits in numbers[begin : begin + _ITEMS]]
-        result = connection.binary(mysql_params.bind(b"SELECT ?", [batch]))
+        result = connection.binary(mysql_params.bind(b"SELECT ?", [mysql_params.In(batch)]))
         same({column.kind for column in result.columns}, {_DOUBLES.type}, begin)
         (packet,) = result.packets
         cells = packet[1 + (len(batch) + 9) // 8 :]

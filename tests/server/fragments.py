@@ -9,7 +9,7 @@ import random
 
 import mysql_params
 from harness import Tests, same
-from mysql_params import Assignments, Identifier, Keyword
+from mysql_params import Assignments, Identifier, In, Keyword
 from protocol import Connection, code_of
 from search import random_query, sql_modes
 from strings import is_utf8, random_strings
@@ -174,7 +174,7 @@ def _numbers(connection: Connection, mode: bool) -> str:
         unit = decimal.Decimal(1).scaleb(-after)
         near = _EXACT.subtract(number, unit) if number > 0 else _EXACT.add(number, unit)
         query = b"SELECT ? = CAST(:t AS DECIMAL(65,%d)), ? = :n, ? > :n, :p = ?" % after
-        names = {"a": number, "t": str(format(number, "f")), "n": near, "p": (number,)}
+        names = {"a": number, "t": str(format(number, "f")), "n": near, "p": In([number])}
         cells = _cells(connection, query.replace(b"?", b":a"), names, mode)
         same(cells, [b"1", b"0", str(int(number > near)).encode(), b"1"], text)
         connection.make_anew(b"TABLE", b"strings.exact", b"(d DECIMAL(65,%d))" % after)
@@ -238,7 +238,7 @@ def _items(connection: Connection, mode: bool) -> str:
             values.insert(source.randrange(len(values) + 1), other)
         numbers = range(1, len(values) + 2)
         query = b"SELECT " + b", ".join([b"HEX(ELT(?, ?))"] * len(numbers))
-        row = _cells(connection, query, [each for number in numbers for each in (number, values)], mode)
+        row = _cells(connection, query, [each for number in numbers for each in (number, In(values))], mode)
         wanted = [None if value is None else _bytes(value).hex().upper().encode() for value in values]
         same(row, [*wanted, None], values)
     return "200 lists"
@@ -354,10 +354,10 @@ def _kinds() -> dict:
     """Fragments of each kind, which differ in what a text in them says: the answer has one shape for all of a kind."""
     texts = [(one, other) for one, other in zip(_HOSTILE, _HOSTILE[1:])]
     kinds: dict = {
-        "a text": [[one] for one in _HOSTILE],
-        "two texts": [list(pair) for pair in texts],
-        "a row": [[pair] for pair in texts],
-        "two rows": [[pair, pair[::-1]] for pair in texts],
+        "a text": [In([one]) for one in _HOSTILE],
+        "two texts": [In(pair) for pair in texts],
+        "a row": [In([pair]) for pair in texts],
+        "two rows": [In([pair, pair[::-1]]) for pair in texts],
         "a name": [Identifier(name) for name in ("never", *(name + "never" for name in _HOSTILE))],
         "names": [Identifier(one + "x", other + "never") for one, other in (("never", "x"), *texts)],
         "a list of names": [[Identifier("never"), Identifier(name + "never")] for name in ("never", *_HOSTILE)],
@@ -365,10 +365,10 @@ def _kinds() -> dict:
         "assignments": [Assignments([(one + "never", other), ("never", one)]) for one, other in texts],
         "a number": [decimal.Decimal(text) for text in ("2.5", "9.75", "123456789.5", "1" * 30 + ".5")],
         "a negative number": [decimal.Decimal(text) for text in ("-2.5", "-9.75", "-123456789.5", "-" + "1" * 30 + ".5")],
-        "numbers": [[decimal.Decimal(text), 2**70 + i] for i, text in enumerate(("2.5", "9.75", "1" * 30 + ".5"))],
+        "numbers": [In([decimal.Decimal(text), 2**70 + i]) for i, text in enumerate(("2.5", "9.75", "1" * 30 + ".5"))],
         "a double": [2.5, 1e16, 0.1, 123456.75, 1e-7],
         "a negative double": [-2.5, -1e16, -0.1, -1e-7],
-        "doubles": [[2.5, 1e16], [1e16, 0.1], [1e-7, 2.5]],
+        "doubles": [In([2.5, 1e16]), In([1e16, 0.1]), In([1e-7, 2.5])],
     }
     return kinds
 

@@ -9,7 +9,7 @@ from typing import Optional
 
 import mysql_params
 from harness import Tests, same
-from mysql_params import Assignments, Identifier, Keyword
+from mysql_params import Assignments, Identifier, In, Keyword
 from protocol import Connection
 from search import random_query, sql_modes
 from steady import character_sets
@@ -113,7 +113,7 @@ def _items(connection: Connection) -> str:
     for values in lists:
         numbers = range(1, len(values) + 2)
         query = "SELECT " + ", ".join(["HEX(ELT(?, ?))"] * len(numbers))
-        texts.append(mysql_params.bind_anywhere(query, [each for number in numbers for each in (number, values)]))
+        texts.append(mysql_params.bind_anywhere(query, [each for number in numbers for each in (number, In(values))]))
         wanted.append([[*map(_hexadecimal, values), None]])
     sets = character_sets(connection)
     for setting in _settings(connection, sets):
@@ -127,7 +127,7 @@ def _exact_numbers(connection: Connection) -> str:
     given = [decimal.Decimal(number) for number in _NUMBERS]
     query = "SELECT " + ", ".join(["?"] * len(given)) + ", ? IN (?)"
     text = mysql_params.bind_anywhere(query, [*given, given[-1], given])
-    doubles = mysql_params.bind_anywhere("SELECT ?", [_DOUBLES])
+    doubles = mysql_params.bind_anywhere("SELECT ?", [In(_DOUBLES)])
     sets = character_sets(connection)
     for setting in _settings(connection, sets):
         (row,) = connection.query(text).rows()
@@ -176,9 +176,9 @@ def _kinds() -> dict:
     pairs = list(zip(_HOSTILE, _HOSTILE[1:]))
     names = ["never", *(one.decode() + "never" for one in _HOSTILE if one.isascii() and b"\\" not in one)]
     return {
-        "a text": [[one] for one in _HOSTILE],
-        "two texts": [list(pair) for pair in pairs],
-        "two rows": [[pair, pair[::-1]] for pair in pairs],
+        "a text": [In([one]) for one in _HOSTILE],
+        "two texts": [In(pair) for pair in pairs],
+        "two rows": [In([pair, pair[::-1]]) for pair in pairs],
         "a name": [Identifier(name) for name in names],
         "a list of names": [[Identifier("never"), Identifier(name)] for name in names],
         "an assignment": [Assignments({"never": one}) for one in _HOSTILE],
