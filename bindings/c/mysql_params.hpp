@@ -588,6 +588,13 @@ inline std::string bind_fragments_guarded(std::string_view query, const Form &fo
     return detail::bound_in(mysql_params_bind_fragments_guarded_wide, query, form, mode);
 }
 
+/* The text to send over a connection of this mode over utf8mb4, as of bind_fragments_guarded; as of bind_fragments if the query, or
+ * a name, isn't ASCII without a backslash. The query has to be portable. Throws Error. */
+inline std::string bind_for_connection(std::string_view query, const Form &form, Mode mode = Mode::backslash_escapes)
+{
+    return detail::bound_in(mysql_params_bind_for_connection_wide, query, form, mode);
+}
+
 /* As bind_anywhere, of a query that may have bytes from 128 on. The connection's character set has to be that of the query,
  * utf8mb4 for UTF-8, and no string of the query may hold a backslash. Throws Error. */
 inline std::string bind_in_both_modes(std::string_view query, const Form &form = {})

@@ -1214,6 +1214,47 @@ int32_t mysql_params_template_bind_anywhere(const mysql_params_template *made, c
     return mysql_params_bind_anywhere(query, made->query_len, form, form_len, room, room_len, report);
 }
 
+/* Binds with plain literals to a query that is portable in the mode. */
+static int32_t bind_portable(const uint8_t *query, size_t query_len, const uint8_t *form, size_t form_len,
+                             bool no_backslash_escape, uint8_t *room, size_t room_len, mysql_params_report *report)
+{
+    int32_t construct = mysql_params_first_unportable_wide(query, query_len, no_backslash_escape, report);
+    if (construct == MYSQL_PARAMS_PORTABLE)
+        return mysql_params_bind_fragments_wide(query, query_len, form, form_len, no_backslash_escape, room, room_len, report);
+    if (construct == MYSQL_PARAMS_NO_MEMORY)
+        return MYSQL_PARAMS_OUT_OF_MEMORY;
+    report->byte = (size_t)construct;
+    return MYSQL_PARAMS_UNPORTABLE;
+}
+
+int32_t mysql_params_bind_for_connection_wide(const uint8_t *query, size_t query_len, const uint8_t *form, size_t form_len,
+                                              bool no_backslash_escape, uint8_t *room, size_t room_len,
+                                              mysql_params_report *report)
+{
+    int32_t number = mysql_params_bind_fragments_guarded_wide(query, query_len, form, form_len, no_backslash_escape, room,
+                                                              room_len, report);
+    if (number != MYSQL_PARAMS_UNSTEADY && number != MYSQL_PARAMS_UNSTEADY_FRAGMENT)
+        return number;
+    return bind_portable(query, query_len, form, form_len, no_backslash_escape, room, room_len, report);
+}
+
+int32_t mysql_params_template_bind_for_connection(const mysql_params_template *made, const uint8_t *form, size_t form_len,
+                                                  bool has_fragments, bool no_backslash_escape, uint8_t *room,
+                                                  size_t room_len, mysql_params_report *report)
+{
+    const uint8_t *query = query_of(made);
+    if (!made->wide_names) {
+        memset(report, 0, sizeof *report);
+        return MYSQL_PARAMS_OTHER_TABLE;
+    }
+    if (made->is_anywhere && !has_fragments)
+        return mysql_params_bind_template_guarded_wide(query, made->query_len, &made->anywhere, anywhere_places_of(made),
+                                                       made->anywhere_len, form, form_len, no_backslash_escape, room,
+                                                       room_len, report);
+    return mysql_params_bind_for_connection_wide(query, made->query_len, form, form_len, no_backslash_escape, room, room_len,
+                                                 report);
+}
+
 /* Binds to a template, to which the context points. */
 static int32_t bind_made(const void *context, const mysql_params_form *form, uint8_t *room, size_t room_len,
                          mysql_params_report *report)

@@ -211,6 +211,25 @@ int32_t mysql_params_template_bind(const mysql_params_template *made, const uint
 int32_t mysql_params_template_bind_anywhere(const mysql_params_template *made, const uint8_t *form, size_t form_len,
                                             uint8_t *room, size_t room_len, mysql_params_report *report);
 
+/* Binds the text to send over a connection in the mode of the flag over utf8mb4, by wide names, and decides what its literals
+ * are: a binding that sends calls nothing else. They are guarded, as of mysql_params_bind_fragments_guarded_wide. If the query, or
+ * a name in a fragment, isn't ASCII without a backslash, they are plain, as of mysql_params_bind_fragments_wide: what another mode
+ * or character set than was told reads of that text may be another statement.
+ *
+ * It returns the numbers of these calls, but neither MYSQL_PARAMS_UNSTEADY nor MYSQL_PARAMS_UNSTEADY_FRAGMENT. A query that isn't
+ * portable in the mode is refused by MYSQL_PARAMS_UNPORTABLE. */
+int32_t mysql_params_bind_for_connection_wide(const uint8_t *query, size_t query_len, const uint8_t *form, size_t form_len,
+                                              bool no_backslash_escape, uint8_t *room, size_t room_len,
+                                              mysql_params_report *report);
+
+/* The same to the query of a template of mysql_params_template_new_wide, in whatever mode that was made; it returns
+ * MYSQL_PARAMS_OTHER_TABLE for one of mysql_params_template_new. If the query is one for any mode and any server, and
+ * `has_fragments` is false, the query isn't walked: the form then has values alone, and a float is refused as by
+ * mysql_params_bind. */
+int32_t mysql_params_template_bind_for_connection(const mysql_params_template *made, const uint8_t *form, size_t form_len,
+                                                  bool has_fragments, bool no_backslash_escape, uint8_t *room,
+                                                  size_t room_len, mysql_params_report *report);
+
 /* Binds as mysql_params_bind_form does to the template's query. */
 int32_t mysql_params_template_bind_form(const mysql_params_template *made, const mysql_params_form *form, char **text,
                                         mysql_params_report *report);

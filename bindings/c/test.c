@@ -610,6 +610,34 @@ static void anywhere_by_a_table(void)
     expect(number == MYSQL_PARAMS_OTHER_TABLE && report.len == 0, &it, "another table is bound by");
 }
 
+/* The same with guarded literals, which depend on the mode. */
+static void guarded_by_a_table(void)
+{
+    static const uint8_t query[] = "SELECT :userId, ':ID', :ID";
+    static const uint8_t form[] = {2, 'I', 'D', 253, 0, 2, '\'', '\\', 6, 'u', 's', 'e', 'r', 'I', 'd', 1, 0, 7};
+    static const char *const texts[] = {"SELECT 7, ':ID', '''\\\\'", "SELECT 7, ':ID', _utf8mb4 0x275C"};
+    mysql_params_anywhere_head head = {{9, 9, 9, 9, 9, 9}};
+    mysql_params_place places[] = {{9, 9}, {9, 9}};
+    mysql_params_report report = {9, 9, 9, 9, 9, 9};
+    test_case it = {0};
+    int32_t number = mysql_params_table_anywhere_wide(query, sizeof query - 1, &head, places, 2, &report);
+    expect(number == MYSQL_PARAMS_DONE && report.len == 2, &it, "the number of places is wanted");
+    for (int mode = 0; mode < 2; mode++) {
+        uint8_t room[64] = {0};
+        size_t len = strlen(texts[mode]);
+        number = mysql_params_bind_template_guarded_wide(query, sizeof query - 1, &head, places, 2, form, sizeof form, mode,
+                                                         room, len, &report);
+        expect(number == MYSQL_PARAMS_DONE && report.len == len, &it, "a text is wanted");
+        expect(memcmp(room, texts[mode], len + 1) == 0, &it, "another text is wanted");
+        number = mysql_params_bind_template_guarded_wide(query, sizeof query - 1, &head, places, 2, form, sizeof form, mode,
+                                                         room, len - 1, &report);
+        expect(number == MYSQL_PARAMS_ROOM && report.len == len, &it, "a longer room is wanted");
+        number = mysql_params_bind_template_guarded_wide(query, sizeof query - 1, &head, places, 1, form, sizeof form, mode,
+                                                         room, len, &report);
+        expect(number == MYSQL_PARAMS_OTHER_TABLE && report.len == 0, &it, "another table is bound by");
+    }
+}
+
 /* A template that gets no memory for the test of its query is bound for any mode and any server too. */
 static void templates_without_a_test(void)
 {
@@ -1665,6 +1693,103 @@ static void guarded_fragments(void)
     }
 }
 
+/* A query, a form, and for each mode the number and text that a connection of it is sent. */
+typedef struct sent_case {
+    const char *query;
+    const char *form;
+    size_t form_len;
+    bool has_fragments;
+    int32_t numbers[2];
+    const char *texts[2];
+} sent_case;
+
+#define FORM(bytes) bytes, sizeof(bytes) - 1
+
+/* "Guarded binding" of docs/RULES.md, and "Binding" where a query or a name isn't ASCII without a backslash. */
+static const sent_case sent_cases[] = {
+    {"= :Ab", FORM("\2Ab\375\0\4it's"), false, {0, 0}, {"= 'it''s'", "= 'it''s'"}},
+    {"= :Ab", FORM("\2Ab\375\0\1\\"), false, {0, 0}, {"= '\\\\'", "= _utf8mb4 0x5C"}},
+    {"= ?", FORM("\0\375\0\3\303\251\\"), false, {0, 0}, {"= '\303\251' '\\\\'", "= _utf8mb4 0xC3A95C"}},
+    {"'\303\251' = ?", FORM("\0\375\0\4it's"), false, {0, 0}, {"'\303\251' = 'it\\'s'", "'\303\251' = 'it''s'"}},
+    {"'\\' = ?", FORM("\0\6\0"), false, {MYSQL_PARAMS_MARK_COUNT, 0}, {NULL, "'\\' = NULL"}},
+    {"? = ?", FORM("\0\203\0\2\303\251\0\375\0\1'"), true, {0, 0}, {"`\303\251` = '\\''", "`\303\251` = ''''"}},
+    {"? = ?", FORM("\0\203\0\1t\0\375\0\1'"), true, {0, 0}, {"`t` = ''''", "`t` = ''''"}},
+    {"/*+ :a */", FORM("\1a\6\0"), false, {MYSQL_PARAMS_UNPORTABLE, MYSQL_PARAMS_UNPORTABLE}, {NULL, NULL}},
+    {"'\303\251' /*+ :a */", FORM("\1a\6\0"), false, {MYSQL_PARAMS_UNPORTABLE, MYSQL_PARAMS_UNPORTABLE}, {NULL, NULL}},
+    {":a", FORM("\1b\6\0"), false, {MYSQL_PARAMS_MISSING, MYSQL_PARAMS_MISSING}, {NULL, NULL}},
+};
+
+static void expect_sent(const test_case *it, const sent_case *sent, int mode, int32_t number, const uint8_t *room,
+                        const mysql_params_report *report)
+{
+    const char *text = sent->texts[mode];
+    expect(number == sent->numbers[mode], it, "another number is wanted");
+    if (text != NULL)
+        expect(report->len == strlen(text) && memcmp(room, text, report->len) == 0, it, "another text is wanted");
+    else if (number == MYSQL_PARAMS_UNPORTABLE)
+        expect(report->byte == MYSQL_PARAMS_HINT && report->position == (size_t)(strchr(sent->query, '/') - sent->query), it,
+               "the hint is wanted");
+}
+
+/* What is sent over a connection, by the query and by templates made in either mode. */
+static void texts_for_connections(void)
+{
+    for (size_t i = 0; i < sizeof sent_cases / sizeof *sent_cases; i++) {
+        const sent_case *sent = &sent_cases[i];
+        const uint8_t *query = (const uint8_t *)sent->query, *form = (const uint8_t *)sent->form;
+        size_t len = strlen(sent->query);
+        test_case it = {0};
+        it.line = (int)i;
+        for (int mode = 0; mode < 4; mode++) {
+            uint8_t room[64] = {0};
+            mysql_params_report report = {9, 9, 9, 9, 9, 9};
+            mysql_params_template *made = mysql_params_template_new_wide(query, len, mode > 1);
+            expect_sent(&it, sent, mode % 2,
+                        mysql_params_bind_for_connection_wide(query, len, form, sent->form_len, mode % 2, room, sizeof room,
+                                                              &report),
+                        room, &report);
+            report = (mysql_params_report){9, 9, 9, 9, 9, 9};
+            memset(room, 0, sizeof room);
+            expect_sent(&it, sent, mode % 2,
+                        mysql_params_template_bind_for_connection(made, form, sent->form_len, sent->has_fragments, mode % 2,
+                                                                  room, sizeof room, &report),
+                        room, &report);
+            mysql_params_template_free(made);
+        }
+    }
+}
+
+/* Binding for a connection where memory is refused, and by a template of other names. */
+static void refused_for_connections(void)
+{
+    static const uint8_t query[] = "'\303\251' /* */ = :Ab, :Ab", form[] = "\2Ab\375\0\4it's";
+    static const char text[] = "'\303\251' /* */ = 'it\\'s', 'it\\'s'";
+    test_case it = {0};
+    long before = blocks;
+    allocation_refused = true;
+    for (long allowed = 0; allocation_refused; allowed++) {
+        uint8_t room[sizeof text] = {0};
+        mysql_params_report report = {9, 9, 9, 9, 9, 9};
+        it.line = (int)allowed;
+        allocations_left = allowed;
+        allocation_refused = false;
+        int32_t number = mysql_params_bind_for_connection_wide(query, sizeof query - 1, form, sizeof form - 1, false, room,
+                                                               sizeof text - 1, &report);
+        allocations_left = ALL;
+        expect(blocks == before, &it, "memory isn't given back");
+        expect(number == (allocation_refused ? MYSQL_PARAMS_OUT_OF_MEMORY : MYSQL_PARAMS_DONE), &it, "another number is wanted");
+        expect(allocation_refused || (report.len == sizeof text - 1 && memcmp(room, text, sizeof text) == 0), &it,
+               "another text is wanted");
+    }
+    uint8_t room[sizeof text] = {0};
+    mysql_params_report report = {9, 9, 9, 9, 9, 9};
+    mysql_params_template *made = mysql_params_template_new(query, sizeof query - 1, false);
+    int32_t number = mysql_params_template_bind_for_connection(made, form, sizeof form - 1, false, false, room, sizeof room,
+                                                               &report);
+    expect(number == MYSQL_PARAMS_OTHER_TABLE && report.len == 0 && report.byte == 0, &it, "another template is bound");
+    mysql_params_template_free(made);
+}
+
 int main(int count, char **words)
 {
     if (count != 2) {
@@ -1682,6 +1807,8 @@ int main(int count, char **words)
     all &= passed("table_of_fragments", table_of_fragments);
     all &= passed("table_of_steady_fragments", table_of_steady_fragments);
     all &= passed("guarded_fragments", guarded_fragments);
+    all &= passed("texts_for_connections", texts_for_connections);
+    all &= passed("refused_for_connections", refused_for_connections);
     all &= passed("forms_of_lists", forms_of_lists);
     all &= passed("implicit_types", implicit_types);
     all &= passed("forms_of_assignments", forms_of_assignments);
@@ -1698,6 +1825,7 @@ int main(int count, char **words)
     all &= passed("wide_names", wide_names);
     all &= passed("tables_by_wide_names", tables_by_wide_names);
     all &= passed("anywhere_by_a_table", anywhere_by_a_table);
+    all &= passed("guarded_by_a_table", guarded_by_a_table);
     all &= passed("templates_without_a_test", templates_without_a_test);
     all &= passed("names_of_long_queries", names_of_long_queries);
     all &= passed("each_value_of_one_byte", each_value_of_one_byte);

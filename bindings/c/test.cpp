@@ -352,6 +352,9 @@ static void guarded_fragments()
          "`a``b` IN ('it''s', _utf8mb4 0xC3A95C, 0xFF)");
     same(thrown([] { bind_fragments_guarded("\\ ?", {1}); }),
          thrown([] { mysql_params::bind_fragments_anywhere("\\ ?", {1}); }));
+    same(mysql_params::bind_for_connection(":T IN (:Ids)", form), bind_fragments_guarded(":T IN (:Ids)", form));
+    same(mysql_params::bind_for_connection("'\\\\' < ?", {"it's"}), "'\\\\' < 'it\\'s'");
+    same(mysql_params::bind_for_connection("'\\' < ?", {"it's"}, Mode::no_backslash_escapes), "'\\' < 'it''s'");
 }
 
 static void rows()

@@ -11,9 +11,9 @@ use Rattle.mysql_portable.specs.FirstUnportable.{first_unportable}
 use Rattle.mysql_portable.specs.Steady.{first_unsteady}
 use Rattle.mysql_portable.proofs.SteadyLemmas.{none_unsteady}
 use Rattle.mysql_steady_text.proofs.BothModesAnswerLemmas.{Agree}
-use Rattle.mysql_flat_params.specs.AnywhereTable.{IsAnywhereBindOutcome, IsAnywhereTableOutcome, IsMadeAnywhereTable, IsRefusedAnywhere, IsTakenAnywhere}
+use Rattle.mysql_flat_params.specs.AnywhereTable.{IsAnywhereTableOutcome, IsMadeAnywhereTable, IsRefusedAnywhere, IsTakenAnywhere}
 use Rattle.mysql_flat_params.specs.Outcomes as outcomes
-use Rattle.mysql_flat_params.specs.PlaceTable.{IfAsQuery, IsMadeTableIn, IsTableBindOutcomeIn, IsTableOutcomeIn}
+use Rattle.mysql_flat_params.specs.PlaceTable.{IsMadeTableIn, IsTableOutcomeIn}
 use Rattle.mysql_flat_params.specs.Steadiness.{IsBoundAs, refusal_as}
 use Rattle.mysql_flat_params.specs.WideSteadyIntoRoom.{wide_anywhere_refusal}
 use Rattle.mysql_flat_params.specs.declared.steady_room.Steadiness.TheVariants.{Anywhere}
@@ -21,9 +21,7 @@ use Rattle.mysql_flat_params.specs.declared.outcome.Outcome.{Outcome}
 use Rattle.mysql_flat_params.specs.declared.outcome.Outcome.TheVariants as variant
 use Rattle.mysql_binding.specs.declared.binding.spans.PlaceSpan.{PlaceSpan}
 use Rattle.mysql_flat_params.specs.declared.place_table.TableHead.{TableHead}
-use Rattle.mysql_flat_params.specs.declared.place_table.TableOutcome.{TableOutcome}
-use Rattle.mysql_flat_params.specs.declared.place_table.TableOutcome.TheVariants.{AsQuery, OtherTable}
-use Rattle.mysql_flat_params.proofs.SteadyOutcomeLemmas.{cause_told, told_first}
+use Rattle.mysql_flat_params.proofs.SteadyOutcomeLemmas.{told_first}
 use Rattle.mysql_flat_params.proofs.SteadyRoomLemmas.{agree_without_unsteady, none_told}
 
 -- the modes agree on a query that is taken
@@ -31,13 +29,6 @@ pub taken_agree : (query : List ℕ) → IsTakenAnywhere query → Agree query
 taken_agree query taken =
     let o = taken true in
     agree_without_unsteady query ((none_unsteady query).0 (none_told variant.Unsteady (first_unsteady query) (first_unportable (lower_names o.0)) o.2).0)
-
--- the outcome for an error of binding by its own table
-pub anywhere_cause : (query form : List ℕ) → IsTakenAnywhere query → (outcome : TableOutcome) → IfAsQuery outcome outcomes.HasNoAnswer →
-    IsTableBindOutcomeIn (wide_reading true) query form outcome → IsAnywhereBindOutcome query form outcome
-anywhere_cause query form taken (AsQuery outcome) no_answer is =
-    cause_told true (IsBoundAs true Anywhere query) (refusal_as true Anywhere query) query form (taken_agree query taken) taken outcome no_answer is
-anywhere_cause query form taken OtherTable no_answer is = is
 
 -- the outcome of making the table of a query that is taken
 pub table_made_anywhere : (query : List ℕ) → IsTakenAnywhere query → (outcome : Outcome) → IsTableOutcomeIn (wide_reading true) query outcome →

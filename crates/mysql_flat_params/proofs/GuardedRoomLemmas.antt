@@ -25,7 +25,7 @@ use Rattle.mysql_steady_text.proofs.GuardedLiteralLemmas.{guarded_kept_apart, gu
 use Rattle.mysql_flat_params.specs.AnywhereCalls.{IsBoundIn}
 use Rattle.mysql_flat_params.specs.declared.fragments_anywhere_room.AnywhereCall.TheVariants.{Guarded}
 
-guarded_known : (mode : Bool) (v : Value) (text : List ℕ) → FieldsInRange v → guarded_literal_of mode v ≡ Some text → IsGuardedFor mode v text
+pub guarded_known : (mode : Bool) (v : Value) (text : List ℕ) → FieldsInRange v → guarded_literal_of mode v ≡ Some text → IsGuardedFor mode v text
 guarded_known mode v text range is = (
   subst (λ o. IfSome o IsGuardedLiteral) is (guarded_shape mode v range),
   subst (λ o. IfSome o KeepsApart) is (guarded_kept_apart mode v range),

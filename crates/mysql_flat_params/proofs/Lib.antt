@@ -22,6 +22,8 @@ pub mod FragmentsFormLemmas
 pub mod KeywordLemmas
 pub mod FragmentsRoomLemmas
 pub mod GuardedRoomLemmas
+pub mod WideGuardedLemmas
+pub mod TableLiteralLemmas
 pub mod FragmentsAnywhereLemmas
 pub mod FragmentInPlaceLemmas
 pub mod FragmentsInPlaceLemmas

@@ -4,9 +4,12 @@
 use Rattle.std.specs.Prelude.{◌≡◌, ◌≤◌, Bool, true, List, ℕ, None, Some, take, drop, length}
 use Rattle.mysql_named_params.specs.Places.{place_count}
 use Rattle.mysql_named_params.specs.Reading.{OnWideTokens, wide_reading}
+use Rattle.mysql_params_core.specs.GivenValues.{Given}
 use Rattle.mysql_binding.specs.declared.binding.spans.PlaceSpan.{PlaceSpan}
 use Rattle.mysql_flat_params.specs.PlaceTable.{HasOwnTableIn, IsTableOfIn}
-use Rattle.mysql_flat_params.specs.WideSteadyIntoRoom.{IsWideAnywhereOutcome, wide_anywhere_refusal}
+use Rattle.mysql_flat_params.specs.GuardedIntoRoom.{IsWideBoundGuarded}
+use Rattle.mysql_flat_params.specs.SteadyIntoRoom.{IsSteadyOutcomeIn}
+use Rattle.mysql_flat_params.specs.WideSteadyIntoRoom.{IsWideBoundAnywhere, wide_anywhere_refusal}
 use Rattle.mysql_flat_params.specs.declared.anywhere_table.AnywhereTemplate.{AnywhereTemplate}
 use Rattle.mysql_flat_params.specs.declared.outcome.Outcome.{Outcome}
 use Rattle.mysql_flat_params.specs.declared.outcome.Outcome.TheVariants as variant
@@ -70,7 +73,18 @@ IsAnywhereTableOutcome query (variant.Unportable number position) =
 -- no other outcome comes
 IsAnywhereTableOutcome query outcome = ⊥
 
--- the meaning of an outcome of binding by the table of a query, for the query and the form
+-- The meaning of an outcome of binding by the table of a query, for the query and the form.
+-- `IsBound` says which text is bound.
+abbrev pub IsBindOutcomeBy : (IsBound : Given → List ℕ → Type 0) (query form : List ℕ)
+    → TableOutcome → Type 0
+IsBindOutcomeBy IsBound query form (AsQuery outcome) =
+    IsSteadyOutcomeIn true IsBound (wide_anywhere_refusal query) query form outcome
+IsBindOutcomeBy IsBound query form OtherTable = ⊥
+
+-- the same for steady literals
 abbrev pub IsAnywhereBindOutcome : (query form : List ℕ) → TableOutcome → Type 0
-IsAnywhereBindOutcome query form (AsQuery outcome) = IsWideAnywhereOutcome query form outcome
-IsAnywhereBindOutcome query form OtherTable = ⊥
+IsAnywhereBindOutcome query = IsBindOutcomeBy (IsWideBoundAnywhere query) query
+
+-- the same for guarded literals
+abbrev pub IsGuardedBindOutcome : (mode : Bool) (query form : List ℕ) → TableOutcome → Type 0
+IsGuardedBindOutcome mode query = IsBindOutcomeBy (IsWideBoundGuarded mode query) query

@@ -12,7 +12,9 @@ pub mod SteadyIntoRoom
 pub mod AnywhereIntoRoom
 pub mod BothModesIntoRoom
 pub mod WideSteadyIntoRoom
+pub mod GuardedIntoRoom
 pub mod AnywhereTable
+pub mod TableLiterals
 pub mod Steadiness
 pub mod BoundRows
 pub mod RowInRoom

@@ -6,8 +6,8 @@
 //! they leave the room as it was, and an [`Outcome`] has the cause. [`table_into`] makes a table of
 //! a query's places, and [`bind_by_table_into`] binds by it, in a [`Template`], without a walk of
 //! the query. [`wide_anywhere_table_into`] also tests the query for any mode and any server, and
-//! [`bind_wide_anywhere_by_table_into`] binds by its table. [`bind_rows_into`] parses a query once
-//! and binds it to many forms.
+//! [`bind_wide_anywhere_by_table_into`] and [`bind_wide_guarded_by_table_into`] bind by its table.
+//! [`bind_rows_into`] parses a query once and binds it to many forms.
 //! [`report_first_unportable`] reports the first construct for which a query isn't portable, and
 //! [`report_first_unportable_in_client`] also reports constructs that a client reads or sends in
 //! another way.
@@ -55,11 +55,13 @@ mod row_names;
 mod rows;
 mod rows_in_place;
 mod steady_room;
+mod table_literals;
 mod unbracketed;
 mod unportable;
 
 pub use anywhere_table::{
-    AnywhereTemplate, bind_wide_anywhere_by_table_into, wide_anywhere_table_into,
+    AnywhereTemplate, bind_wide_anywhere_by_table_into, bind_wide_guarded_by_table_into,
+    wide_anywhere_table_into,
 };
 pub use column_number::column_type;
 pub use form::params_of_form;

@@ -1,10 +1,11 @@
 //! Tables of queries for any mode and any server, and what is bound by them. The texts are written
 //! by hand: `_utf8mb4'..'` with each quote doubled for printable ASCII without a backslash, and
-//! `_utf8mb4 0x..` for other UTF-8.
+//! `_utf8mb4 0x..` for other UTF-8. Those with guarded literals are by docs/RULES.md, "Guarded
+//! binding".
 use crate::shared::{NO_HEAD, NO_PLACE, answer_of, same_in, wrote};
 use mysql_flat_params::{
     AnywhereTemplate, Outcome, PlaceSpan, TableHead, TableOutcome,
-    bind_wide_anywhere_by_table_into, wide_anywhere_table_into,
+    bind_wide_anywhere_by_table_into, bind_wide_guarded_by_table_into, wide_anywhere_table_into,
 };
 use std::alloc::{AllocError, Global};
 use std::process::Abort;
@@ -55,6 +56,40 @@ fn bound_by_the_table(rt: HostRuntime) {
     let wanted = Outcome::Done { len: TEXT.len() };
     same_in(&rt, told, TableOutcome::AsQuery(wanted), &"by the table");
     wrote(&rt, wanted, &room, TEXT, &"by the table");
+}
+
+/// Forms for QUERY, and the texts with guarded literals: with backslash escapes, and without.
+const GUARDED: &[(&[u8], &[u8], &[u8])] = &[
+    (
+        FORM,
+        b"SELECT '\xC3\xA9', ':ID', 'it''s'",
+        b"SELECT '\xC3\xA9', ':ID', 'it''s'",
+    ),
+    // `ID` is the text `é\`, and `userId` has the byte 255.
+    (
+        b"\x02ID\xfd\0\x03\xC3\xA9\\\x06userId\xfd\0\x01\xff",
+        b"SELECT 0xFF, ':ID', '\xC3\xA9' '\\\\'",
+        b"SELECT 0xFF, ':ID', _utf8mb4 0xC3A95C",
+    ),
+];
+
+#[test]
+fn guarded_by_the_table(rt: HostRuntime) {
+    for (form, with_escapes, without) in GUARDED {
+        for (mode, text) in [(false, *with_escapes), (true, *without)] {
+            let mut room = [b'#'; 64];
+            let told = bind_wide_guarded_by_table_into(
+                rt.alloc(),
+                &TEMPLATE,
+                *form,
+                mode,
+                &mut room,
+            );
+            let wanted = Outcome::Done { len: text.len() };
+            same_in(&rt, told, TableOutcome::AsQuery(wanted), form);
+            wrote(&rt, wanted, &room, text, form);
+        }
+    }
 }
 
 /// Queries that get no table, and why.
@@ -121,6 +156,15 @@ fn refusals_by_the_table(rt: HostRuntime) {
         };
         let told = bind_wide_anywhere_by_table_into(rt.alloc(), &template, *form, &mut room);
         same_in(&rt, told, *wanted, form);
+        same_in(&rt, room, [b'#'; 64], form);
+        let guarded = bind_wide_guarded_by_table_into(
+            rt.alloc(),
+            &template,
+            *form,
+            false,
+            &mut room,
+        );
+        same_in(&rt, guarded, *wanted, form);
         same_in(&rt, room, [b'#'; 64], form);
     }
 }

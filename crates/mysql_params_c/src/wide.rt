@@ -1,11 +1,12 @@
 //! Exports for queries with wide names, which may have capitals.
 ghost use Rattle.std.specs.Prelude.{◌≡◌, ◌≢◌, ◌⊎◌, ◌↔◌, ◌+◌, ◌≤◌, ◌<◌, ℕ, Bool, false, true, [], Some, None, length, take, drop, pos, negsuc};
-ghost use Rattle.mysql_flat_params.specs.AnywhereTable.{IsAnywhereBindOutcome, IsAnywhereTableOf, IsAnywhereTableOutcome, IsMadeAnywhereTable};
+ghost use Rattle.mysql_flat_params.specs.AnywhereTable.{IsAnywhereBindOutcome, IsAnywhereTableOf, IsAnywhereTableOutcome, IsGuardedBindOutcome, IsMadeAnywhereTable};
 ghost use Rattle.mysql_flat_params.specs.BoundRows.{AreBoundRowsIn, IsRowsOutcomeIn};
 ghost use Rattle.mysql_flat_params.specs.FlatForm.{HasFirstParameter};
 ghost use Rattle.mysql_flat_params.specs.FragmentsAnywhereIntoRoom as anywhere_fragments;
 ghost use Rattle.mysql_flat_params.specs.FragmentsIntoRoom as fragments;
 ghost use Rattle.mysql_flat_params.specs.FragmentsOutcomes as fragments_outcomes;
+ghost use Rattle.mysql_flat_params.specs.GuardedIntoRoom.{IsWideGuardedForm};
 ghost use Rattle.mysql_flat_params.specs.IntoRoom.{IfMixedIn, IsBindOutcomeIn, IsBoundFormIn, IsNamesAnswerIn, IsNamesOutcomeIn};
 ghost use Rattle.mysql_flat_params.specs.Outcomes.{IsTold, number_of};
 ghost use Rattle.mysql_flat_params.specs.PlaceTable as table;
@@ -26,9 +27,9 @@ use mysql_flat_params::{
     AnywhereTemplate, PlaceSpan, ReadTemplate, Reading, Report, Rows, TableHead,
     bind_by_table_into_read, bind_fragments_into_read, bind_into_read, bind_rows_into_read,
     bind_wide_anywhere_by_table_into, bind_wide_anywhere_into, bind_wide_fragments_anywhere_into,
-    bind_wide_fragments_guarded_into, bind_wide_in_both_modes_into, names_into_read,
-    report_first_unportable_in_client_wide, report_first_unportable_wide, table_into_read,
-    wide_anywhere_table_into,
+    bind_wide_fragments_guarded_into, bind_wide_guarded_by_table_into,
+    bind_wide_in_both_modes_into, names_into_read, report_first_unportable_in_client_wide,
+    report_first_unportable_wide, table_into_read, wide_anywhere_table_into,
 };
 use std::alloc::Global;
 
@@ -375,6 +376,54 @@ pub extern "C" fn mysql_params_bind_template_anywhere_wide(
         places,
     };
     let outcome = bind_wide_anywhere_by_table_into(alloc, &template, form, room);
+    *report = outcome.report();
+    outcome.number()
+}
+
+/// [`mysql_params_bind_template_anywhere_wide`] with guarded literals for a mode:
+/// [`bind_wide_guarded_by_table_into`](mysql_flat_params::bind_wide_guarded_by_table_into).
+///
+/// Tables, numbers, report and room are the same.
+#[unsafe(no_mangle)]
+pub extern "C" fn mysql_params_bind_template_guarded_wide(
+    alloc: Global,
+    query: &[u8],
+    head: &TableHead,
+    places: &[PlaceSpan],
+    form: &[u8],
+    no_backslash_escape: bool,
+    room: &mut [u8],
+    report: &mut Report,
+) -> i32
+    ensures outcome { table.IsTold result report.new (λ told.
+        IsAnywhereTableOf head.now places.now query.now →
+        IsGuardedBindOutcome no_backslash_escape query.now form.now told) }
+    ensures written { IsAnywhereTableOf head.now places.now query.now → result ≡ pos 0 →
+        IsWideGuardedForm no_backslash_escape query.now form.now (take report.new.len room.new) }
+
+    // The empty form over a query with a name and a mark is refused without allocating.
+    ensures mixed { IsAnywhereTableOf head.now places.now query.now → form.now ≡ [] →
+        IfMixedIn (wide_reading true) query.now (result ≡ pos 8) }
+
+    // A form that is refused for its first parameter is refused without allocating.
+    ensures memory { result ≡ pos 1 → (form.now ≡ []) ⊎ HasFirstParameter form.now }
+    ensures rest { result ≡ pos 0 → (report.new.len ≤ length room.old)
+        × (drop report.new.len room.new ≡ drop report.new.len room.old) }
+    ensures too_long { result ≡ pos 2 → length room.old < report.new.len }
+    ensures unchanged { result ≢ pos 0 → room.new ≡ room.old }
+{
+    let template = AnywhereTemplate {
+        query,
+        head: *head,
+        places,
+    };
+    let outcome = bind_wide_guarded_by_table_into(
+        alloc,
+        &template,
+        form,
+        no_backslash_escape,
+        room,
+    );
     *report = outcome.report();
     outcome.number()
 }

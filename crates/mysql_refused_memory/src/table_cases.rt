@@ -4,7 +4,7 @@ use crate::outcome::{Case, Memory, Outcome, cases, row};
 use mysql_flat_params::{
     AnywhereTemplate, Outcome as Told, PlaceSpan, ReadTemplate, Reading, TableHead, TableOutcome,
     Template, bind_by_table_into, bind_by_table_into_read, bind_wide_anywhere_by_table_into,
-    table_into, table_into_read, wide_anywhere_table_into,
+    bind_wide_guarded_by_table_into, table_into, table_into_read, wide_anywhere_table_into,
 };
 use std::alloc::Global;
 
@@ -25,8 +25,14 @@ pub(crate) fn case(alloc: Global, name: &str) -> Option<Case> {
     if let Some(row) = row(ANYWHERE_BOUND, name) {
         return Some(Ok(bound_anywhere(alloc, row)));
     }
+    if let Some(row) = row(GUARDED_BOUND, name) {
+        return Some(Ok(bound_guarded(alloc, row)));
+    }
     if let Some(row) = row(MARKS_BOUND, name) {
-        return Some(Ok(bound_marks(alloc, row)));
+        return Some(Ok(bound_marks(alloc, row, None)));
+    }
+    if let Some((row, no_backslash_escape)) = row(GUARDED_MARKS_BOUND, name) {
+        return Some(Ok(bound_marks(alloc, row, Some(no_backslash_escape))));
     }
     Some(Ok(bound_by_wide_names(alloc, row(WIDE_BOUND, name)?)))
 }
@@ -260,6 +266,26 @@ fn bound_anywhere(alloc: Global, (places, form, wanted, memory): AnywhereRow) ->
     bound_in_room(told, &room, wanted).with(memory)
 }
 
+const GUARDED_BOUND: &[(&str, AnywhereRow)] = cases! {
+    "bind_wide_guarded_by_table_into of names" =>
+        WIDE_PLACES, WIDE_FORM, Ok(b"'it''s',NULL"), Asked;
+    "bind_wide_guarded_by_table_into of another table" =>
+        ONE_PLACE, WIDE_FORM, Err(TableOutcome::OtherTable), Never;
+    "bind_wide_guarded_by_table_into of a missing name" => WIDE_PLACES, ONLY_AB,
+        Err(TableOutcome::AsQuery(Told::Missing { place: 1, position: 5, len: 1, })), Asked;
+};
+
+fn bound_guarded(alloc: Global, (places, form, wanted, memory): AnywhereRow) -> Outcome {
+    let mut room = *ROOM;
+    let template = AnywhereTemplate {
+        query: b":Ab,:b",
+        head: HEAD,
+        places,
+    };
+    let told = bind_wide_guarded_by_table_into(alloc, &template, form, false, &mut room);
+    bound_in_room(told, &room, wanted).with(memory)
+}
+
 /// The table of `?,?`: its head, and its places.
 const MARKS_HEAD: TableHead = TableHead {
     names: 0,
@@ -285,14 +311,31 @@ const MARKS_BOUND: &[(&str, MarksRow)] = cases! {
         Err(TableOutcome::AsQuery(Told::MarkCount { marks: 2, values: 1, })), Asked;
 };
 
-fn bound_marks(alloc: Global, (form, wanted, memory): MarksRow) -> Outcome {
+/// The same with guarded literals, and the mode.
+const GUARDED_MARKS_BOUND: &[(&str, (MarksRow, bool))] = cases! {
+    "bind_wide_guarded_by_table_into of two marks" =>
+        (b"\x00\x06\x00\x00\xFD\x00\x05it's\\", Ok(b"NULL,'it''s\\\\'"), Never), false;
+    "bind_wide_guarded_by_table_into of two marks without backslash escapes" =>
+        (b"\x00\x06\x00\x00\xFD\x00\x02'\\", Ok(b"NULL,_utf8mb4 0x275C"), Never), true;
+};
+
+fn bound_marks(
+    alloc: Global,
+    (form, wanted, memory): MarksRow,
+    guarded_in: Option<bool>,
+) -> Outcome {
     let mut room = *ROOM;
     let template = AnywhereTemplate {
         query: b"?,?",
         head: MARKS_HEAD,
         places: MARKS,
     };
-    let told = bind_wide_anywhere_by_table_into(alloc, &template, form, &mut room);
+    let told = match guarded_in {
+        None => bind_wide_anywhere_by_table_into(alloc, &template, form, &mut room),
+        Some(no_backslash_escape) => {
+            bind_wide_guarded_by_table_into(alloc, &template, form, no_backslash_escape, &mut room)
+        }
+    };
     bound_in_room(told, &room, wanted).with(memory)
 }
 
