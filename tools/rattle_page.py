@@ -21,12 +21,12 @@ MEMBER = re.compile(r"result ≡ (?P<method>⟦<.+ as \w+>⟧\.\w+) a\.now b\.no
 SAYS = {"same": "IsTrue result ↔ ", "order": "result ≡ "}
 
 # What a row of the page begins with: its anchor, its title and its file.
-TITLE = r'<a id="(?P<id>[^"]+)"></a>\[\*\*`(?P<title>[^`]+)`\*\*\]\(\.\./(?P<path>[^)]+)\)'
+TITLE = r'<a id=(?P<id>[^>]+)></a>\[\*\*`(?P<title>[^`]+)`\*\*\]\(\.\./(?P<path>[^)]+)\)'
 HEAD = re.compile(rf"- {TITLE}(?:`(?P<signature>[^`]+)`)?:")
 LIKE = re.compile(r" As \[`[^`]+`\]\(#([^)]+)\)(?:, with ((?:`[^`]+` for `[^`]+`(?:, )?)+))?\.")
 PAIR = re.compile(r"`([^`]+)` for `([^`]+)`")
 SHARED = re.compile(r" \[Shared\]\(#([^)]+)\): ((?:`\w+`(?:, )?)+)\.")
-SHARED_HEAD = re.compile(r'- <a id="([^"]+)"></a>Clauses that several calls')
+SHARED_HEAD = re.compile(r'- <a id=([^>]+)></a>Clauses that several calls')
 CLAUSE = r"`(\w+)`: `([^`]+)`(?: \((.*?)\))?"
 CLAUSE_ROW = re.compile(rf"  - {CLAUSE}(?: → \[.*)?$")
 FIELDS_ROW = re.compile(r"  - `\w+`: ")
@@ -60,7 +60,7 @@ def law_row(made_id, path, law, sentence):
     if name not in SAYS or not says.startswith(SAYS[name]) or not method:
         raise SystemExit(f"{path}::{law.title} has other clauses than the laws of equality and order")
     return (
-        f'| <a id="{made_id}"></a>{file_link(f"{path}::{law.title}", law.source.path)} | {sentence} '
+        f'| <a id={made_id}></a>{file_link(f"{path}::{law.title}", law.source.path)} | {sentence} '
         f"| `{method['method']}` | `{name}`: `{says.removeprefix(SAYS[name])}` |"
     )
 
@@ -87,7 +87,7 @@ class Reading:
 
     def __init__(self):
         self.by_anchor, self.shared, self.text = {}, {}, PAGE.read_text()
-        self.twice = [one for one, count in Counter(re.findall(r'<a id="([^"]+)">', self.text)).items() if count > 1]
+        self.twice = [one for one, count in Counter(re.findall(r'<a id=([^>]+)>', self.text)).items() if count > 1]
         laws, row, clauses = [], None, []
         for line in self.text.splitlines():
             head, shared, law = (one.match(line) for one in (HEAD, SHARED_HEAD, LAW))

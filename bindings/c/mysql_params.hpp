@@ -592,7 +592,11 @@ inline std::string bind_fragments_guarded(std::string_view query, const Form &fo
  * a name, isn't ASCII without a backslash. The query has to be portable. Throws Error. */
 inline std::string bind_for_connection(std::string_view query, const Form &form, Mode mode = Mode::backslash_escapes)
 {
-    return detail::bound_in(mysql_params_bind_for_connection_wide, query, form, mode);
+    const mysql_params_form &flat = form.get();
+    return detail::bound(query, flat, [&](std::uint8_t *room, std::size_t room_len, mysql_params_report *report) {
+        return mysql_params_bind_for_connection_wide(detail::bytes_of(query), query.size(), flat.room, flat.len, true,
+                                                     mode == Mode::no_backslash_escapes, room, room_len, report);
+    });
 }
 
 /* As bind_anywhere, of a query that may have bytes from 128 on. The connection's character set has to be that of the query,

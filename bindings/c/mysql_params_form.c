@@ -1215,27 +1215,44 @@ int32_t mysql_params_template_bind_anywhere(const mysql_params_template *made, c
 }
 
 /* Binds with plain literals to a query that is portable in the mode. */
-static int32_t bind_portable(const uint8_t *query, size_t query_len, const uint8_t *form, size_t form_len,
-                             bool no_backslash_escape, uint8_t *room, size_t room_len, mysql_params_report *report)
+static int32_t bind_portable(const in_a_mode *to, const uint8_t *form, size_t form_len, uint8_t *room, size_t room_len,
+                             mysql_params_report *report)
 {
-    int32_t construct = mysql_params_first_unportable_wide(query, query_len, no_backslash_escape, report);
+    int32_t construct = mysql_params_first_unportable_wide(to->query, to->query_len, to->no_backslash_escape, report);
     if (construct == MYSQL_PARAMS_PORTABLE)
-        return mysql_params_bind_fragments_wide(query, query_len, form, form_len, no_backslash_escape, room, room_len, report);
+        return to->bind(to->query, to->query_len, form, form_len, to->no_backslash_escape, room, room_len, report);
     if (construct == MYSQL_PARAMS_NO_MEMORY)
         return MYSQL_PARAMS_OUT_OF_MEMORY;
     report->byte = (size_t)construct;
     return MYSQL_PARAMS_UNPORTABLE;
 }
 
+/* Returns what refuses values whose names don't fit, as the call for values tells it: it has no room for a text. Those for
+ * fragments tell another name that is missing, and of no values that they have no names. */
+static int32_t told_of_values(const in_a_mode *to, const uint8_t *form, size_t form_len, uint8_t *room, int32_t number,
+                              mysql_params_report *report)
+{
+    mysql_params_report told = {0, 0, 0, 0, 0, 0};
+    int32_t own = to->bind(to->query, to->query_len, form, form_len, to->no_backslash_escape, room, 0, &told);
+    if (own == MYSQL_PARAMS_DONE || own == MYSQL_PARAMS_ROOM)
+        return number;
+    *report = told;
+    return own;
+}
+
 int32_t mysql_params_bind_for_connection_wide(const uint8_t *query, size_t query_len, const uint8_t *form, size_t form_len,
-                                              bool no_backslash_escape, uint8_t *room, size_t room_len,
+                                              bool has_fragments, bool no_backslash_escape, uint8_t *room, size_t room_len,
                                               mysql_params_report *report)
 {
+    const in_a_mode to = {has_fragments ? mysql_params_bind_fragments_wide : mysql_params_bind_wide, query, query_len,
+                          no_backslash_escape};
     int32_t number = mysql_params_bind_fragments_guarded_wide(query, query_len, form, form_len, no_backslash_escape, room,
                                                               room_len, report);
-    if (number != MYSQL_PARAMS_UNSTEADY && number != MYSQL_PARAMS_UNSTEADY_FRAGMENT)
-        return number;
-    return bind_portable(query, query_len, form, form_len, no_backslash_escape, room, room_len, report);
+    if (number == MYSQL_PARAMS_UNSTEADY || number == MYSQL_PARAMS_UNSTEADY_FRAGMENT)
+        return bind_portable(&to, form, form_len, room, room_len, report);
+    if (!has_fragments && (number == MYSQL_PARAMS_MISSING || number == MYSQL_PARAMS_POSITIONAL_FOR_NAMED))
+        return told_of_values(&to, form, form_len, room, number, report);
+    return number;
 }
 
 int32_t mysql_params_template_bind_for_connection(const mysql_params_template *made, const uint8_t *form, size_t form_len,
@@ -1251,8 +1268,8 @@ int32_t mysql_params_template_bind_for_connection(const mysql_params_template *m
         return mysql_params_bind_template_guarded_wide(query, made->query_len, &made->anywhere, anywhere_places_of(made),
                                                        made->anywhere_len, form, form_len, no_backslash_escape, room,
                                                        room_len, report);
-    return mysql_params_bind_for_connection_wide(query, made->query_len, form, form_len, no_backslash_escape, room, room_len,
-                                                 report);
+    return mysql_params_bind_for_connection_wide(query, made->query_len, form, form_len, has_fragments, no_backslash_escape,
+                                                 room, room_len, report);
 }
 
 /* Binds to a template, to which the context points. */

@@ -217,15 +217,15 @@ int32_t mysql_params_template_bind_anywhere(const mysql_params_template *made, c
  * or character set than was told reads of that text may be another statement.
  *
  * It returns the numbers of these calls, but neither MYSQL_PARAMS_UNSTEADY nor MYSQL_PARAMS_UNSTEADY_FRAGMENT. A query that isn't
- * portable in the mode is refused by MYSQL_PARAMS_UNPORTABLE. */
+ * portable in the mode is refused by MYSQL_PARAMS_UNPORTABLE. If `has_fragments` is false, the form has values alone and no float,
+ * and a missing name is told as by mysql_params_bind_wide. */
 int32_t mysql_params_bind_for_connection_wide(const uint8_t *query, size_t query_len, const uint8_t *form, size_t form_len,
-                                              bool no_backslash_escape, uint8_t *room, size_t room_len,
+                                              bool has_fragments, bool no_backslash_escape, uint8_t *room, size_t room_len,
                                               mysql_params_report *report);
 
 /* The same to the query of a template of mysql_params_template_new_wide, in whatever mode that was made; it returns
  * MYSQL_PARAMS_OTHER_TABLE for one of mysql_params_template_new. If the query is one for any mode and any server, and
- * `has_fragments` is false, the query isn't walked: the form then has values alone, and a float is refused as by
- * mysql_params_bind. */
+ * `has_fragments` is false, the query isn't walked. */
 int32_t mysql_params_template_bind_for_connection(const mysql_params_template *made, const uint8_t *form, size_t form_len,
                                                   bool has_fragments, bool no_backslash_escape, uint8_t *room,
                                                   size_t room_len, mysql_params_report *report);

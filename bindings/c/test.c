@@ -1717,16 +1717,26 @@ static const sent_case sent_cases[] = {
     {"/*+ :a */", FORM("\1a\6\0"), false, {MYSQL_PARAMS_UNPORTABLE, MYSQL_PARAMS_UNPORTABLE}, {NULL, NULL}},
     {"'\303\251' /*+ :a */", FORM("\1a\6\0"), false, {MYSQL_PARAMS_UNPORTABLE, MYSQL_PARAMS_UNPORTABLE}, {NULL, NULL}},
     {":a", FORM("\1b\6\0"), false, {MYSQL_PARAMS_MISSING, MYSQL_PARAMS_MISSING}, {NULL, NULL}},
+    {":a, 1:b", FORM("\1c\6\0"), false, {MYSQL_PARAMS_MISSING, MYSQL_PARAMS_MISSING}, {NULL, NULL}},
+    {":a", FORM(""), false, {MYSQL_PARAMS_MISSING, MYSQL_PARAMS_MISSING}, {NULL, NULL}},
+    {":a '\303\251'", FORM(""), false, {MYSQL_PARAMS_MISSING, MYSQL_PARAMS_MISSING}, {NULL, NULL}},
+    {":a", FORM("\0\6\0"), false, {MYSQL_PARAMS_POSITIONAL_FOR_NAMED, MYSQL_PARAMS_POSITIONAL_FOR_NAMED}, {NULL, NULL}},
 };
 
-static void expect_sent(const test_case *it, const sent_case *sent, int mode, int32_t number, const uint8_t *room,
+static void expect_sent(const test_case *it, const sent_case *sent, int mode, int32_t number, uint8_t *room,
                         const mysql_params_report *report)
 {
     const char *text = sent->texts[mode];
+    mysql_params_report own = {9, 9, 9, 9, 9, 9};
     expect(number == sent->numbers[mode], it, "another number is wanted");
     if (text != NULL)
         expect(report->len == strlen(text) && memcmp(room, text, report->len) == 0, it, "another text is wanted");
-    else if (number == MYSQL_PARAMS_UNPORTABLE)
+    else if (number != MYSQL_PARAMS_UNPORTABLE)
+        expect(mysql_params_bind_wide((const uint8_t *)sent->query, strlen(sent->query), (const uint8_t *)sent->form,
+                                      sent->form_len, mode, room, 64, &own) == number &&
+                   same_report(report, &own),
+               it, "the refusal of values is wanted");
+    else
         expect(report->byte == MYSQL_PARAMS_HINT && report->position == (size_t)(strchr(sent->query, '/') - sent->query), it,
                "the hint is wanted");
 }
@@ -1745,8 +1755,8 @@ static void texts_for_connections(void)
             mysql_params_report report = {9, 9, 9, 9, 9, 9};
             mysql_params_template *made = mysql_params_template_new_wide(query, len, mode > 1);
             expect_sent(&it, sent, mode % 2,
-                        mysql_params_bind_for_connection_wide(query, len, form, sent->form_len, mode % 2, room, sizeof room,
-                                                              &report),
+                        mysql_params_bind_for_connection_wide(query, len, form, sent->form_len, sent->has_fragments, mode % 2,
+                                                              room, sizeof room, &report),
                         room, &report);
             report = (mysql_params_report){9, 9, 9, 9, 9, 9};
             memset(room, 0, sizeof room);
@@ -1773,8 +1783,8 @@ static void refused_for_connections(void)
         it.line = (int)allowed;
         allocations_left = allowed;
         allocation_refused = false;
-        int32_t number = mysql_params_bind_for_connection_wide(query, sizeof query - 1, form, sizeof form - 1, false, room,
-                                                               sizeof text - 1, &report);
+        int32_t number = mysql_params_bind_for_connection_wide(query, sizeof query - 1, form, sizeof form - 1, false, false,
+                                                               room, sizeof text - 1, &report);
         allocations_left = ALL;
         expect(blocks == before, &it, "memory isn't given back");
         expect(number == (allocation_refused ? MYSQL_PARAMS_OUT_OF_MEMORY : MYSQL_PARAMS_DONE), &it, "another number is wanted");

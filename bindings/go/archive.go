@@ -17,7 +17,7 @@ type question struct {
 	call  call
 	mode  Mode
 	query string
-	table *Template // of callTemplate; of callAnywhere what is kept of the query, if that has a table for it
+	table *Template // of callTemplate; of those with steady literals or guarded ones what is kept, if that has a table
 }
 
 // marked returns the question for values in the order of the places, without their names.
@@ -34,6 +34,8 @@ const (
 	callAnywhere
 	callBothModes
 	callTemplate
+	callGuarded       // with guarded literals, for a query and names that are ASCII without a backslash
+	callForConnection // with what literals the archive's C decides, for a connection of the mode
 )
 
 // keptRoom is how long a text may be for its memory to be used again, and keptForm so of a form. Go's collector
@@ -99,6 +101,8 @@ func (r *room) ask(q *question) C.int32_t {
 	text, textLen := roomOf(r.text)
 	mode := C.bool(q.mode)
 	switch {
+	case q.call == callGuarded || q.call == callForConnection:
+		return r.askGuarded(q)
 	case q.call == callAnywhere && r.writer.fragments:
 		return C.mysql_params_bind_fragments_anywhere_wide(query, queryLen, form, formLen, text, textLen, &r.report)
 	case q.call == callAnywhere && q.table != nil:
@@ -122,6 +126,30 @@ func (r *room) ask(q *question) C.int32_t {
 	}
 }
 
+// askGuarded does so for a text that is sent.
+func (r *room) askGuarded(q *question) C.int32_t {
+	query, queryLen := bytesOf(q.query)
+	form, formLen := roomOf(r.writer.form)
+	text, textLen := roomOf(r.text)
+	mode := C.bool(q.mode)
+	if q.table != nil && !r.writer.fragments {
+		table := q.table.anywhere
+		places, placesLen := placesAt(table.places)
+		return C.mysql_params_bind_template_guarded_wide(query, queryLen, &table.head, places, placesLen, form, formLen,
+			mode, text, textLen, &r.report)
+	}
+	if q.call == callGuarded {
+		number := C.mysql_params_bind_fragments_guarded_wide(query, queryLen, form, formLen, mode, text, textLen, &r.report)
+		isMissing := number == C.MYSQL_PARAMS_MISSING || number == C.MYSQL_PARAMS_POSITIONAL_FOR_NAMED
+		if r.writer.fragments || !isMissing {
+			return number
+		}
+		// The call below tells it of values as every call does.
+	}
+	return C.mysql_params_bind_for_connection_wide(query, queryLen, form, formLen, C.bool(r.writer.fragments), mode, text,
+		textLen, &r.report)
+}
+
 // have has room for a text of so many bytes at least.
 func (r *room) have(wanted int) {
 	if len(r.text) < wanted {
@@ -137,6 +165,19 @@ func (r *room) guess(q *question) int {
 		return len(q.query) + 2*length
 	}
 	return len(q.query) + 3*length + 64
+}
+
+// bound returns the text for the arguments of the form, or the refusal. It can be called again: for another call, or
+// another mode, with the same table.
+func (r *room) bound(q *question) (string, error) {
+	if r.writer.left != nil {
+		marked := q.marked()
+		if text, err := r.answer(&marked); err == nil {
+			return text, nil
+		}
+		r.writer.giveNames() // The query with its names tells the refusal.
+	}
+	return r.answer(q)
 }
 
 // answer returns the text for the form of the room, or the refusal.

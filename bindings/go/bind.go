@@ -7,6 +7,10 @@ type Binder struct {
 	// Location is whose clock each time.Time is written by, as time.UTC where the session's @@time_zone is
 	// '+00:00'. If it is nil, each is written as its own clock shows it.
 	Location *time.Location
+	// Steady is whether QueryContext and ExecContext send the text of BindAnywhere, if that takes the query and its
+	// Identifiers, and whether a Session sends no other text. Its literals have the collation of utf8mb4 in place of
+	// the connection's. QueryContext and ExecContext ask nothing for it.
+	Steady bool
 }
 
 // BindAnywhere returns the query with literals that depend on no connection: no sql_mode and no character set
@@ -36,21 +40,22 @@ func BindInBothModes(query string, args ...any) (string, error) {
 
 // BindAnywhere is the package's BindAnywhere with the options.
 func (b Binder) BindAnywhere(query string, args ...any) (string, error) {
-	q := &question{call: callAnywhere, query: query}
+	q := steadyQuestion(callAnywhere, query)
+	return b.bind(&q, args)
+}
+
+// steadyQuestion returns the question of a call that takes what BindAnywhere takes, by what is kept of the query, if
+// that has a table for it.
+func steadyQuestion(call call, query string) question {
 	if kept := keptTemplate(BackslashEscapes, query); kept != nil && kept.anywhere != nil {
-		q.query, q.table = kept.query, kept
+		return kept.question(call)
 	}
-	return b.bind(q, args)
+	return question{call: call, query: query}
 }
 
 // Bind is the package's Bind with the options.
 func (b Binder) Bind(mode Mode, query string, args ...any) (string, error) {
-	return b.bindKept(keptTemplate(mode, query), mode, query, args)
-}
-
-// bindKept binds to a query by what is kept of it, if anything is.
-func (b Binder) bindKept(kept *Template, mode Mode, query string, args []any) (string, error) {
-	if kept != nil {
+	if kept := keptTemplate(mode, query); kept != nil {
 		return b.BindTemplate(kept, args...)
 	}
 	return b.bind(&question{call: callBind, mode: mode, query: query}, args)
@@ -63,33 +68,41 @@ func (b Binder) BindInBothModes(query string, args ...any) (string, error) {
 
 // BindTemplate is Template.Bind with the options.
 func (b Binder) BindTemplate(template *Template, args ...any) (string, error) {
-	return b.bind(&question{call: callTemplate, mode: template.mode, query: template.query, table: template}, args)
+	q := template.question(callTemplate)
+	return b.bind(&q, args)
 }
 
 // bind writes the arguments, and asks.
 func (b Binder) bind(q *question, args []any) (string, error) {
-	if err := ready(); err != nil {
+	r, err := b.written(q, args)
+	if err != nil {
 		return "", err
+	}
+	defer r.giveBack()
+	return r.bound(q)
+}
+
+// written returns a room with the arguments as a form: each is read once, however often that is bound.
+func (b Binder) written(q *question, args []any) (*room, error) {
+	if err := ready(); err != nil {
+		return nil, err
 	}
 	r := rooms.Get().(*room)
-	defer r.giveBack()
+	if err := r.write(q, args, b.Location); err != nil {
+		r.giveBack()
+		return nil, err
+	}
+	return r, nil
+}
+
+// write writes the arguments: without their names if the question has a table for values in the order of the places.
+func (r *room) write(q *question, args []any, location *time.Location) error {
 	if q.table != nil && q.table.marked != nil {
-		r.writer.begin(b.Location, false)
-		is, err := r.writer.inOrder(q.table.names, args)
-		if err != nil {
-			return "", err
-		}
-		if is {
-			marked := q.marked()
-			if text, err := r.answer(&marked); err == nil {
-				return text, nil
-			}
-			// The query with its names tells the refusal.
+		r.writer.begin(location, false)
+		if is, err := r.writer.inOrder(q.table.names, args); is || err != nil {
+			return err
 		}
 	}
-	r.writer.begin(b.Location, q.call == callBothModes)
-	if err := r.writer.arguments(args); err != nil {
-		return "", err
-	}
-	return r.answer(q)
+	r.writer.begin(location, q.call == callBothModes)
+	return r.writer.arguments(args)
 }

@@ -1,13 +1,15 @@
 // Package mysqlparams puts values into SQL queries for MySQL and MariaDB as literals.
 //
-//	text, err := mysqlparams.BindAnywhere("SELECT * FROM t WHERE id = :id", sql.Named("id", 42))
-//	rows, err := db.QueryContext(ctx, text)
+//	rows, err := mysqlparams.QueryContext(ctx, db, "SELECT * FROM t WHERE name = :name", sql.Named("name", "it's"))
 //
-// QueryContext and ExecContext do both. Arguments are sql.NamedArg for the names of a query, or values in
-// order for its marks. A name is a colon, a letter or `_`, and all letters, digits and `_` that follow, as
-// `:userId`. Letters are those of ASCII, and names are told apart by case. Each colon before a letter or `_`
-// begins a name, except in strings, quoted identifiers and comments. So `x:LOOP` is refused, and `x: LOOP` is
-// sent as it is.
+// QueryContext and ExecContext send guarded text: its literals have the connection's collation, and no mode moves the
+// end of one. The connection is asked only if the text depends on it. BindAnywhere returns a text for any connection,
+// which Binder.Steady has sent. Bind returns one for a connection that you asked.
+//
+// Arguments are sql.NamedArg for the names of a query, or values in order for its marks. A name is a colon, a
+// letter or `_`, and all letters, digits and `_` that follow, as `:userId`. Letters are those of ASCII, and names
+// are told apart by case. Each colon before a letter or `_` begins a name, except in strings, quoted identifiers
+// and comments. So `x:LOOP` is refused, and `x: LOOP` is sent as it is.
 //
 // A value is one of these; pointers to them are followed, and a nil pointer is NULL:
 //
@@ -31,7 +33,7 @@
 //
 // The archive libmysql_params_c.a answers each call. What it answers is stated in the repository's
 // docs/RULES.md and proved for every input. This package, which hands values in and answers out, is tested
-// and not proved. It calls the archive by cgo; a bind is one such call. Bind and BindAnywhere keep the
+// and not proved. It calls the archive by cgo; a bind is one such call. All but BindInBothModes and BindRows keep the
 // places of the last queries from their second time on. All functions and types are safe for
 // goroutines.
 package mysqlparams

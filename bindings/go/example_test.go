@@ -1,6 +1,7 @@
 package mysqlparams_test
 
 import (
+	"context"
 	"database/sql"
 	"errors"
 	"fmt"
@@ -21,6 +22,35 @@ func Example() {
 func ExampleBindAnywhere() {
 	fmt.Println(mysqlparams.BindAnywhere("SELECT ?, ?", "it's", "é"))
 	// Output: SELECT _utf8mb4'it''s', _utf8mb4 0xC3A9 <nil>
+}
+
+// printer is a Sender that prints what is sent.
+type printer struct{}
+
+func (printer) QueryContext(_ context.Context, text string, _ ...any) (*sql.Rows, error) {
+	fmt.Println(text)
+	return nil, nil
+}
+
+func (printer) ExecContext(_ context.Context, text string, _ ...any) (sql.Result, error) {
+	fmt.Println(text)
+	return nil, nil
+}
+
+// What is sent by default, with the collation of the connection, and with the option Steady.
+func ExampleExecContext() {
+	ctx := context.Background()
+	const query = "DELETE FROM t WHERE DATE_FORMAT(day, '%Y-%m') = ? AND name = ?"
+	if _, err := mysqlparams.ExecContext(ctx, printer{}, query, "2019-11", "it's"); err != nil {
+		panic(err)
+	}
+	steady := mysqlparams.Binder{Steady: true}
+	if _, err := steady.ExecContext(ctx, printer{}, query, "2019-11", "it's"); err != nil {
+		panic(err)
+	}
+	// Output:
+	// DELETE FROM t WHERE DATE_FORMAT(day, '%Y-%m') = '2019-11' AND name = 'it''s'
+	// DELETE FROM t WHERE DATE_FORMAT(day, '%Y-%m') = _utf8mb4'2019-11' AND name = _utf8mb4'it''s'
 }
 
 // The table of a tenant, rows, an exact number and a float.

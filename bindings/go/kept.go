@@ -48,17 +48,17 @@ func keptTemplate(mode Mode, query string) *Template {
 	return found
 }
 
-// templateToKeep returns the template of a query, which is found to be portable or not, and taken by BindAnywhere
-// or not; nil without memory.
+// templateToKeep returns the template of a query, with what else is found of it; nil without memory.
 func templateToKeep(mode Mode, query string) *Template {
 	made, err := NewTemplate(mode, query)
 	if err != nil {
 		return nil
 	}
-	found, err := FirstUnportable(mode, query)
-	made.portable = found == nil && err == nil
-	if mode == BackslashEscapes { // BindAnywhere keeps its queries there.
+	if isSteady(query) {
 		made.findAnywhere()
+		return made
 	}
+	found, err := FirstUnportable(mode, query)
+	made.plain = found == nil && err == nil
 	return made
 }

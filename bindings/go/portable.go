@@ -109,11 +109,3 @@ func (c Construct) message() string {
 	}
 	return C.GoString(line)
 }
-
-// refused returns the refusal of a query by the construct.
-func (u *Unportable) refused() error {
-	r := rooms.Get().(*room)
-	defer r.giveBack()
-	r.report = C.mysql_params_report{position: C.size_t(u.Position), byte: C.size_t(u.Construct)}
-	return r.refusal(C.MYSQL_PARAMS_UNPORTABLE, &question{query: u.query})
-}

@@ -25,10 +25,17 @@ type OneConnection interface {
 
 // QueryContext binds a query, and sends the text without arguments, so that the driver sends it as it is.
 //
-// The text is that of BindAnywhere, which is right for any connection: nothing is asked. If the query or an
-// Identifier has a backslash or a byte from 128 on, the connection that sends it is asked first, as by Ask, and the
-// text is that of Session.Bind. Then the Sender has to be a *sql.DB, of which one connection is taken, or what Ask
-// takes. Where a server wants a plain text, as after SEPARATOR, take a Session.
+// Literals are guarded: no sql_mode, and no character set but swe7, moves the end of one. They have the connection's
+// collation, and are written so:
+//
+//	SELECT 'it''s', 'é'
+//
+// A text that is ASCII without a backslash is sent at once. For another one the connection that sends it is asked
+// first, as by Ask, of a *sql.DB one that is taken: its mode decides how a backslash of a value is written. If it isn't
+// utf8mb4, or the Sender is none that Ask takes, the text is that of BindAnywhere.
+//
+// If the query or an Identifier has a backslash or a byte from 128 on, the connection is asked too, and the literals
+// are plain, as those of Bind. Then one that isn't utf8mb4, or that can't be asked, is refused with CodeSession.
 func QueryContext(ctx context.Context, to Sender, query string, args ...any) (*sql.Rows, error) {
 	return Binder{}.QueryContext(ctx, to, query, args...)
 }
@@ -40,50 +47,107 @@ func ExecContext(ctx context.Context, to Sender, query string, args ...any) (sql
 
 // QueryContext is the package's QueryContext with the options.
 func (b Binder) QueryContext(ctx context.Context, to Sender, query string, args ...any) (*sql.Rows, error) {
-	text, err := b.BindAnywhere(query, args...)
-	if err == nil {
-		return to.QueryContext(ctx, text)
-	}
-	if !isUnsteady(err) {
-		return nil, err
-	}
-	session, conn, err := b.askOne(ctx, to)
+	bound, err := b.toSend(ctx, to, query, args)
 	if err != nil {
 		return nil, err
 	}
-	rows, err := session.QueryContext(ctx, query, args...)
-	if conn != nil && err != nil {
-		conn.Close()
-	} else if conn != nil {
-		go conn.Close() // It waits until the rows are closed.
+	rows, err := bound.over.QueryContext(ctx, bound.text)
+	if bound.taken != nil && err != nil {
+		bound.taken.Close()
+	} else if bound.taken != nil {
+		go bound.taken.Close() // It waits until the rows are closed.
 	}
 	return rows, err
 }
 
 // ExecContext is the package's ExecContext with the options.
 func (b Binder) ExecContext(ctx context.Context, to Sender, query string, args ...any) (sql.Result, error) {
-	text, err := b.BindAnywhere(query, args...)
-	if err == nil {
-		return to.ExecContext(ctx, text)
-	}
-	if !isUnsteady(err) {
-		return nil, err
-	}
-	session, conn, err := b.askOne(ctx, to)
+	bound, err := b.toSend(ctx, to, query, args)
 	if err != nil {
 		return nil, err
 	}
-	if conn != nil {
-		defer conn.Close()
+	if bound.taken != nil {
+		defer bound.taken.Close()
 	}
-	return session.ExecContext(ctx, query, args...)
+	return bound.over.ExecContext(ctx, bound.text)
 }
 
-// isUnsteady returns whether only BindAnywhere refuses so: for a query or a name that isn't ASCII without a
-// backslash.
+// sending is a text, and what it is sent over.
+type sending struct {
+	text  string
+	over  Sender
+	taken *sql.Conn // of a pool, to be given back; nil if none was taken
+}
+
+// toSend binds a query for what its text is sent over, which is asked if the text depends on it.
+func (b Binder) toSend(ctx context.Context, to Sender, query string, args []any) (sending, error) {
+	call := callGuarded
+	if b.Steady {
+		call = callAnywhere
+	}
+	q := steadyQuestion(call, query)
+	r, err := b.written(&q, args)
+	if err != nil {
+		return sending{}, err
+	}
+	defer r.giveBack()
+	text, err := r.bound(&q)
+	if err != nil && !isUnsteady(err) {
+		return sending{}, err
+	}
+	if err == nil && isSteady(text) { // As each text of BindAnywhere.
+		return sending{text: text, over: to}, nil
+	}
+	bound, refused := b.toSendAsked(ctx, to, r, &q, text)
+	if err != nil || !errors.Is(refused, ErrSession) {
+		return bound, refused
+	}
+	q.call = callAnywhere
+	text, err = r.bound(&q)
+	return sending{text: text, over: to}, err
+}
+
+// toSendAsked binds what is written for one connection, which is asked. The text is that for a mode with backslash
+// escapes, if it was found.
+func (b Binder) toSendAsked(ctx context.Context, to Sender, r *room, q *question, text string) (sending, error) {
+	session, taken, err := b.askOne(ctx, to)
+	if err != nil {
+		return sending{}, err
+	}
+	if text == "" || session.mode != BackslashEscapes {
+		q.call, q.mode = callForConnection, session.mode
+		text, err = r.bound(q)
+	}
+	if err != nil && taken != nil {
+		taken.Close()
+	}
+	return sending{text: text, over: session.conn, taken: taken}, err
+}
+
+// isUnsteady returns whether a query is refused only since it or a name isn't ASCII without a backslash.
 func isUnsteady(err error) bool {
 	var refused *BindError
 	return errors.As(err, &refused) && (refused.Code == CodeUnsteady || refused.Code == CodeUnsteadyFragment)
+}
+
+// isSteady returns whether a text is ASCII without a backslash, which each mode and each character set but swe7 reads
+// the same.
+func isSteady(text string) bool {
+	if strings.IndexByte(text, '\\') >= 0 {
+		return false
+	}
+	for ; len(text) >= 8; text = text[8:] { // The compiler makes one load of these.
+		if (uint64(text[0])|uint64(text[1])<<8|uint64(text[2])<<16|uint64(text[3])<<24|uint64(text[4])<<32|
+			uint64(text[5])<<40|uint64(text[6])<<48|uint64(text[7])<<56)&0x8080808080808080 != 0 {
+			return false
+		}
+	}
+	for i := 0; i < len(text); i++ {
+		if text[i] >= 0x80 {
+			return false
+		}
+	}
+	return true
 }
 
 // askOne asks a connection, of a pool one that the caller gives back.
@@ -109,8 +173,9 @@ func (b Binder) askOne(ctx context.Context, to Sender) (*Session, *sql.Conn, err
 	}
 }
 
-// Session is a connection that was asked for its mode and its character sets. It sends texts of Bind in that
-// mode, with plain literals.
+// Session is a connection that was asked for its mode and its character sets. Its texts have guarded literals in that
+// mode, as those of QueryContext, or plain ones if the query or an Identifier has a backslash or a byte from 128 on. A
+// Session of a Binder that is Steady sends those of BindAnywhere, and refuses what that refuses.
 //
 // After it has sent a query that isn't one SELECT, INSERT, UPDATE, DELETE or REPLACE, it asks again before its next
 // text. It doesn't see what others send over the connection: after a SET of sql_mode or a character set by another
@@ -199,8 +264,8 @@ func (s *Session) Mode() Mode {
 	return s.mode
 }
 
-// Bind returns the text of Bind in the mode of the connection. It refuses a query that isn't portable with
-// CodeUnportable, and if the connection has to be asked again, each query with CodeSession.
+// Bind returns the text that the Session would send. It refuses a query that isn't portable with CodeUnportable, and if
+// the connection has to be asked again, each query with CodeSession.
 func (s *Session) Bind(query string, args ...any) (string, error) {
 	s.lock.Lock()
 	mode, isKnown := s.mode, s.asked == s.changes
@@ -208,25 +273,24 @@ func (s *Session) Bind(query string, args ...any) (string, error) {
 	if !isKnown {
 		return "", sessionError("The Session has sent what may change its mode: send by it, or call Ask again")
 	}
-	return s.binder.bindPortable(mode, query, args)
+	return s.binder.bindForConnection(mode, query, args)
 }
 
-// bindPortable returns the text of Bind, of a query that is portable.
-func (b Binder) bindPortable(mode Mode, query string, args []any) (string, error) {
-	kept := keptTemplate(mode, query)
-	if kept == nil || !kept.portable {
-		found, err := FirstUnportable(mode, query)
-		if err != nil {
-			return "", err
-		}
-		if found != nil {
-			return "", found.refused()
-		}
+// bindForConnection returns the text to send over a connection of the mode.
+func (b Binder) bindForConnection(mode Mode, query string, args []any) (string, error) {
+	if b.Steady {
+		return b.BindAnywhere(query, args...)
 	}
-	return b.bindKept(kept, mode, query, args)
+	q := question{call: callForConnection, mode: mode, query: query}
+	if kept := keptTemplate(mode, query); kept != nil && kept.plain {
+		q = kept.question(callTemplate)
+	} else if kept != nil && kept.anywhere != nil {
+		q = kept.question(callForConnection)
+	}
+	return b.bind(&q, args)
 }
 
-// QueryContext binds a query, and sends the text over the connection without arguments.
+// QueryContext binds a query as Bind, and sends the text over the connection without arguments.
 func (s *Session) QueryContext(ctx context.Context, query string, args ...any) (rows *sql.Rows, err error) {
 	err = s.send(ctx, query, args, func(text string) (sent error) {
 		rows, sent = s.conn.QueryContext(ctx, text)
@@ -251,7 +315,7 @@ func (s *Session) send(ctx context.Context, query string, args []any, by func(te
 		return err
 	}
 	// Without the lock: a driver.Valuer may send by this Session.
-	text, err := s.binder.bindPortable(mode, query, args)
+	text, err := s.binder.bindForConnection(mode, query, args)
 	if err != nil {
 		return err
 	}

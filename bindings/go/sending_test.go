@@ -10,6 +10,7 @@ import (
 	"strings"
 	"sync"
 	"testing"
+	"time"
 )
 
 // played is a driver, and a server of which each connection has this session. It keeps what it is sent.
@@ -38,8 +39,10 @@ func (c *playedConn) Begin() (driver.Tx, error)           { return c, nil }
 func (c *playedConn) Commit() error                       { return nil }
 func (c *playedConn) Rollback() error                     { return nil }
 
-// take keeps a text. What it sets is the session's from then on.
-func (c *playedConn) take(text string, args []driver.NamedValue) {
+var errServer = errors.New("the server refuses")
+
+// take keeps a text, or refuses it. What it sets is the session's from then on.
+func (c *playedConn) take(text string, args []driver.NamedValue) error {
 	if len(args) > 0 {
 		panic("a text was sent with arguments")
 	}
@@ -52,17 +55,19 @@ func (c *playedConn) take(text string, args []driver.NamedValue) {
 	if _, charset, ok := strings.Cut(text, "SET NAMES "); ok {
 		c.client, c.own = charset, charset
 	}
+	if strings.Contains(text, "REFUSED") {
+		return errServer
+	}
+	return nil
 }
 
 func (c *playedConn) ExecContext(_ context.Context, text string, args []driver.NamedValue) (driver.Result, error) {
-	c.take(text, args)
-	return driver.RowsAffected(3), nil
+	return driver.RowsAffected(3), c.take(text, args)
 }
 
 func (c *playedConn) QueryContext(_ context.Context, text string, args []driver.NamedValue) (driver.Rows, error) {
 	if !strings.Contains(text, "@@sql_mode") {
-		c.take(text, args)
-		return &playedRows{values: []driver.Value{"answer"}}, nil
+		return &playedRows{values: []driver.Value{"answer"}}, c.take(text, args)
 	}
 	c.Lock()
 	defer c.Unlock()
@@ -110,14 +115,20 @@ func connections(t *testing.T, db *sql.DB) []Sender {
 // send sends by both calls, and returns the error. Both give what the driver gives.
 func send(t *testing.T, to Sender, query string, args ...any) error {
 	t.Helper()
-	rows, err := QueryContext(context.Background(), to, query, args...)
+	return sendBy(t, Binder{}, to, query, args...)
+}
+
+// sendBy does so with options.
+func sendBy(t *testing.T, by Binder, to Sender, query string, args ...any) error {
+	t.Helper()
+	rows, err := by.QueryContext(context.Background(), to, query, args...)
 	if err == nil {
 		var answer string
 		if !rows.Next() || rows.Scan(&answer) != nil || answer != "answer" || rows.Close() != nil {
 			t.Errorf("%q", answer)
 		}
 	}
-	result, err2 := ExecContext(context.Background(), to, query, args...)
+	result, err2 := by.ExecContext(context.Background(), to, query, args...)
 	if err2 == nil {
 		if count, err := result.RowsAffected(); count != 3 || err != nil {
 			t.Error(count, err)
@@ -129,15 +140,26 @@ func send(t *testing.T, to Sender, query string, args ...any) error {
 	return err
 }
 
+// noneInUse has all connections of a pool be given back: after rows are closed a goroutine does it.
+func noneInUse(t *testing.T, db *sql.DB) {
+	t.Helper()
+	for waited := 0; waited < 500 && db.Stats().InUse > 0; waited++ {
+		time.Sleep(10 * time.Millisecond)
+	}
+	if count := db.Stats().InUse; count > 0 {
+		t.Error(count, "connections are in use")
+	}
+}
+
 func TestSentWithoutAQuestion(t *testing.T) {
 	server, db := open(t, "", "latin1")
-	for _, to := range connections(t, db) {
+	for _, to := range append(connections(t, db), resolver{db}) {
 		server.texts = nil
-		if err := send(t, to, "SELECT :a", sql.Named("a", hostile)); err != nil {
+		if err := send(t, to, "SELECT :a, :b", sql.Named("a", "' , 7 -- \n\x00"), sql.Named("b", "\xff\\'")); err != nil {
 			t.Error(err)
 		}
-		if !reflect.DeepEqual(server.texts, []string{"SELECT _utf8mb4 0x5C27202C2037202D2D20",
-			"SELECT _utf8mb4 0x5C27202C2037202D2D20"}) {
+		const wanted = "SELECT ''' , 7 -- \n\x00', 0xFF5C27"
+		if !reflect.DeepEqual(server.texts, []string{wanted, wanted}) {
 			t.Errorf("%T: %q", to, server.texts)
 		}
 	}
@@ -173,21 +195,53 @@ func TestConnectionsGivenBack(t *testing.T) {
 		if err := send(t, db, "SELECT ü, [?", i); err == nil {
 			t.Fatal("no refusal")
 		}
+		if err := send(t, db, "SELECT ?", "é"); err != nil {
+			t.Fatal(err)
+		}
+		if err := send(t, db, "SELECT 'REFUSED', ?", "é"); !errors.Is(err, errServer) {
+			t.Fatal(err)
+		}
 	}
-	if server.opened != 1 || len(server.texts) != 40 {
+	if server.opened != 1 || len(server.texts) != 120 {
 		t.Error(server.opened, len(server.texts))
+	}
+}
+
+// TestConnectionsInUse has the connection of a pool that was asked be in use until its rows are closed.
+func TestConnectionsInUse(t *testing.T) {
+	server, db := open(t, "", "utf8mb4")
+	db.SetMaxOpenConns(1)
+	for _, query := range []string{"SELECT ?", "SELECT ü, ?"} {
+		rows, err := QueryContext(context.Background(), db, query, "é")
+		must(nil, err)
+		ctx, cancel := context.WithTimeout(context.Background(), 10*time.Millisecond)
+		if _, err := ExecContext(ctx, db, query, "é"); !errors.Is(err, context.DeadlineExceeded) || db.Stats().InUse != 1 {
+			t.Errorf("%s: %v, %d in use", query, err, db.Stats().InUse)
+		}
+		cancel()
+		must(nil, rows.Close())
+		_, err = ExecContext(context.Background(), db, query, "é")
+		must(nil, err)
+	}
+	if noneInUse(t, db); server.opened != 1 {
+		t.Error(server.opened)
 	}
 }
 
 func TestStaleConnections(t *testing.T) {
 	server, db := open(t, "", "utf8mb4")
-	server.stale = 2
-	if err := send(t, db, "SELECT ü, ?", 1); err != nil {
-		t.Error(err)
+	for _, query := range []string{"SELECT ü, ?", "SELECT ?"} {
+		server.stale = 2
+		if err := send(t, db, query, "é"); err != nil {
+			t.Error(err)
+		}
+		server.stale = 100
+		if err := send(t, db, query, "é"); !errors.Is(err, driver.ErrBadConn) {
+			t.Error(err)
+		}
 	}
-	server.stale = 100
-	if err := send(t, db, "SELECT ü, ?", 1); !errors.Is(err, driver.ErrBadConn) {
-		t.Error(err)
+	if noneInUse(t, db); len(server.texts) != 4 {
+		t.Errorf("%q", server.texts)
 	}
 }
 
@@ -234,7 +288,7 @@ func TestSessions(t *testing.T) {
 				t.Fatal(err)
 			}
 		}
-		if server.asked != 1 || len(server.texts) != 6 || server.texts[4] != `SELECT '\'' , 7 -- '` ||
+		if server.asked != 1 || len(server.texts) != 6 || server.texts[4] != "SELECT _utf8mb4 0x5C27202C2037202D2D20" ||
 			server.texts[5] != "SELECT 'b'" {
 			t.Errorf("%q, asked %d times", server.texts, server.asked)
 		}
@@ -265,8 +319,8 @@ func TestSentRefusals(t *testing.T) {
 	}
 	ctx, cancel := context.WithCancel(context.Background())
 	cancel()
-	for _, query := range []string{"SELECT 1", "ü"} {
-		if _, err := QueryContext(ctx, db, query); !errors.Is(err, context.Canceled) {
+	for query, args := range map[string][]any{"SELECT 1": nil, "ü": nil, "SELECT ?": {"é"}} {
+		if _, err := QueryContext(ctx, db, query, args...); !errors.Is(err, context.Canceled) {
 			t.Error(err)
 		}
 	}

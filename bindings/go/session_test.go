@@ -76,8 +76,8 @@ func TestSessionsThatChange(t *testing.T) {
 			t.Errorf("%s: %q, %v", set, text, err)
 		}
 	}
-	if wanted := []string{"SET sql_mode = NO_BACKSLASH_ESCAPES", `SELECT '\'' , 7 -- '`, "SELECT 1; SET sql_mode = ",
-		`SELECT '\\\' , 7 -- '`}; !reflect.DeepEqual(server.texts, wanted) || session.Mode() != BackslashEscapes {
+	if wanted := []string{"SET sql_mode = NO_BACKSLASH_ESCAPES", "SELECT _utf8mb4 0x5C27202C2037202D2D20",
+		"SELECT 1; SET sql_mode = ", `SELECT '\\'' , 7 -- '`}; !reflect.DeepEqual(server.texts, wanted) || session.Mode() != BackslashEscapes {
 		t.Errorf("%q, %v", server.texts, session.Mode())
 	}
 	_, err := session.ExecContext(ctx, "SET NAMES gbk")
@@ -135,7 +135,7 @@ func TestSessionsThatChangeWhileTheyBind(t *testing.T) {
 		t.Errorf("%v, %q", err, server.texts)
 	}
 	_, err = session.ExecContext(ctx, "SELECT ?", sender{session, "SELECT 1"})
-	if err != nil || len(server.texts) != 3 || server.texts[2] != `SELECT '\'' , 7 -- '` {
+	if err != nil || len(server.texts) != 3 || server.texts[2] != "SELECT _utf8mb4 0x5C27202C2037202D2D20" {
 		t.Errorf("%v, %q", err, server.texts)
 	}
 }

@@ -25,8 +25,8 @@ type Template struct {
 	places   []C.mysql_params_place
 	names    []string       // those of the places, if each differs from the others
 	marked   *Template      // of the query with `?` in their places; nil without them
-	portable bool           // of a kept one, whether the query is portable
 	anywhere *anywhereTable // of a kept one, if BindAnywhere takes the query
+	plain    bool           // of a kept one, whether a Session binds to it as Bind: it isn't steady, but is portable
 }
 
 // anywhereTable is the table of a query that BindAnywhere takes.
@@ -123,6 +123,11 @@ func (t *Template) Query() string { return t.query }
 
 // Mode returns the mode for which the query is read and its values are written.
 func (t *Template) Mode() Mode { return t.mode }
+
+// question returns the question of a call by the template.
+func (t *Template) question(call call) question {
+	return question{call: call, mode: t.mode, query: t.query, table: t}
+}
 
 // Bind returns what the package's Bind returns for the query and the mode.
 func (t *Template) Bind(args ...any) (string, error) {

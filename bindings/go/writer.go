@@ -30,18 +30,21 @@ type writer struct {
 	name      string         // the name of the argument that is written
 	number    int            // its number
 	column    Identifier     // the column of the assignment that is written
+	left      []string       // the names that the form lacks, of values in their order; nil if it lacks none
+	starts    []int          // where the values begin whose names it lacks
 }
 
 // begin has the writer write a form anew.
 func (w *writer) begin(location *time.Location, single bool) {
 	w.form, w.fragments, w.single, w.location = w.form[:0], false, single, location
+	w.left, w.starts = nil, w.starts[:0]
 }
 
 // end drops what the writer shouldn't keep.
 func (w *writer) end() {
-	w.name, w.location, w.column = "", nil, nil
+	w.name, w.location, w.column, w.left = "", nil, nil, nil
 	if cap(w.form) > keptForm {
-		w.form = nil
+		w.form, w.starts = nil, nil
 	}
 }
 
@@ -79,6 +82,7 @@ func (w *writer) inOrder(names []string, args []any) (bool, error) {
 		if !ok || named.Name != names[i] {
 			return false, nil
 		}
+		w.starts = append(w.starts, len(w.form))
 		w.form = append(w.form, 0)
 		if w.plain(named.Value) {
 			continue
@@ -92,7 +96,23 @@ func (w *writer) inOrder(names []string, args []any) (bool, error) {
 			return true, err
 		}
 	}
+	w.left = names
 	return true, nil
+}
+
+// giveNames has each value of the form stand behind its name, as if it had been written so.
+func (w *writer) giveNames() {
+	without := append([]byte(nil), w.form...)
+	w.form = w.form[:0]
+	for i, name := range w.left {
+		end := len(without)
+		if i+1 < len(w.starts) {
+			end = w.starts[i+1]
+		}
+		w.string(name)
+		w.form = append(w.form, without[w.starts[i]+1:end]...)
+	}
+	w.left = nil
 }
 
 // haveNames returns whether arguments, as many as the names, have these.

@@ -149,7 +149,7 @@ export type Kind =
   | 'NOT_ALONE'
   /** NaN or an infinity: give null. By bindInBothModes each DOUBLE. */
   | 'FLOAT'
-  /** By bindAnywhere: a query that isn't ASCII without a backslash. Take bindInBothModes, or bind. */
+  /** By bindAnywhere, and with `steady`: a query that isn't ASCII without a backslash. Take bindInBothModes, or bind. */
   | 'UNSTEADY'
   /** Servers read the query in different ways, as with an executable comment: the message says what to write. */
   | 'UNPORTABLE'
@@ -157,7 +157,7 @@ export type Kind =
   | 'FAULT'
   /** By bindInBothModes: a backslash in a string of the query. Take bind. */
   | 'BACKSLASH'
-  /** By bindAnywhere: an Identifier that isn't ASCII without a backslash. Take bind. */
+  /** By bindAnywhere, and with `steady`: an Identifier that isn't ASCII without a backslash. Take bind. */
   | 'UNSTEADY_FRAGMENT'
   /** An array where one value stands: write its place alone in brackets, as in `IN (?)`, or give an In. */
   | 'UNBRACKETED'
@@ -266,10 +266,16 @@ export interface Sender {
 export interface SendOptions extends ZoneOptions {
   /** Whether the connection is asked before this text too, as over a proxy that has several servers. */
   alwaysAsk?: boolean
+  /** Whether the text of bindAnywhere is sent. */
+  steady?: boolean
 }
 
 /**
- * Binds a query in the mode of a connection, and sends the text. It resolves to the driver's results and fields.
+ * Binds a query for a connection, and sends the text. It resolves to the driver's results and fields.
+ *
+ * If the query and its identifiers are ASCII without a backslash, the text has guarded literals, such as `'it''s'`. A session of
+ * another mode or character set than was told, except swe7, then may read another value, and no value as SQL. Else the text is that
+ * of bind in the mode that was told. With `steady` it is that of bindAnywhere, which refuses such a query.
  *
  * A connection is asked for its mode before its first text, and again after the driver has connected anew. One of `mysql` is asked
  * again after each command that may change the mode, such as `SET`, `CALL` or `changeUser`; one of `mysql2`, which tells of no

@@ -124,6 +124,10 @@ function first_unportable_in_client(string $query, bool $noBackslashEscape = fal
 /**
  * Binds a query, sends the text by `PDO::query` or `mysqli::query`, without parameters, and returns what that returns.
  *
+ * If the query and its identifiers are ASCII without a backslash, the text has guarded literals, as `'it''s'`: a session of another
+ * mode or character set than was told, except swe7, may read another value, and no value as SQL. Else it is the text of bind in the
+ * mode that was told. With $steady it is that of bind_anywhere, which refuses such a query.
+ *
  * The connection's mode, character sets and max_allowed_packet are asked for before the first text, and kept while the object
  * lives. They are asked for anew after a query of these calls that isn't one SELECT, INSERT, UPDATE, DELETE or REPLACE, when the
  * driver tells of another mode, and with mysqli after a reconnect, `change_user` or `set_charset`. They are asked for before each
@@ -133,7 +137,7 @@ function first_unportable_in_client(string $query, bool $noBackslashEscape = fal
  * @throws BindException also for a connection that isn't utf8mb4, and for a text that is too long
  * @throws \TypeError|\ValueError for a value that has no literal
  */
-function query(\PDO|\mysqli $connection, string $query, array $params = [], bool $alwaysAsk = false): \PDOStatement|\mysqli_result|bool
+function query(\PDO|\mysqli $connection, string $query, array $params = [], bool $alwaysAsk = false, bool $steady = false): \PDOStatement|\mysqli_result|bool
 {
 }
 
@@ -146,7 +150,7 @@ function query(\PDO|\mysqli $connection, string $query, array $params = [], bool
  * @throws BindException also for a connection that isn't utf8mb4, and for a text that is too long
  * @throws \TypeError|\ValueError for a value that has no literal
  */
-function execute(\PDO|\mysqli $connection, string $query, array $params = [], bool $alwaysAsk = false): int|string|false
+function execute(\PDO|\mysqli $connection, string $query, array $params = [], bool $alwaysAsk = false, bool $steady = false): int|string|false
 {
 }
 
@@ -376,7 +380,7 @@ class BindException extends \RuntimeException
     const NOT_ALONE = 13;
     /** A NaN or an infinity: give null. By bind_in_both_modes each float. */
     const FLOAT = 14;
-    /** By bind_anywhere: a backslash or a byte that isn't ASCII in the query. Take bind_in_both_modes, or bind. */
+    /** By bind_anywhere, also for $steady: a backslash or a byte outside ASCII in the query. Take bind_in_both_modes, or bind. */
     const UNSTEADY = 15;
     /** Servers read the query in different ways, as with an executable comment: the message says what to write. */
     const UNPORTABLE = 16;
@@ -384,7 +388,7 @@ class BindException extends \RuntimeException
     const FAULT = 17;
     /** By bind_in_both_modes: a backslash in a string of the query. Take bind. */
     const BACKSLASH = 18;
-    /** By bind_anywhere: a name that isn't ASCII without a backslash. Take bind. */
+    /** By bind_anywhere, also for $steady: a name that isn't ASCII without a backslash. Take bind. */
     const UNSTEADY_FRAGMENT = 19;
     /** A list, where one value is meant: write its place alone in brackets, as `IN (:ids)`, or give an In. */
     const UNBRACKETED = 21;

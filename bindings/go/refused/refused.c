@@ -82,6 +82,11 @@ int32_t __real_mysql_params_bind_wide(const uint8_t *, size_t, const uint8_t *, 
 int32_t __real_mysql_params_bind_template_wide(const uint8_t *, size_t, const mysql_params_table_head *,
                                                const mysql_params_place *, size_t, const uint8_t *, size_t, bool, uint8_t *,
                                                size_t, mysql_params_report *);
+int32_t __real_mysql_params_bind_template_guarded_wide(const uint8_t *, size_t, const mysql_params_anywhere_head *,
+                                                       const mysql_params_place *, size_t, const uint8_t *, size_t, bool,
+                                                       uint8_t *, size_t, mysql_params_report *);
+int32_t __real_mysql_params_bind_fragments_guarded_wide(const uint8_t *, size_t, const uint8_t *, size_t, bool, uint8_t *,
+                                                        size_t, mysql_params_report *);
 int32_t __real_mysql_params_names_wide(const uint8_t *, size_t, bool, uint8_t *, size_t, mysql_params_report *);
 int32_t __real_mysql_params_first_unportable_wide(const uint8_t *, size_t, bool, mysql_params_report *);
 int32_t __real_mysql_params_bind_rows_wide(const uint8_t *, size_t, const uint8_t *, size_t, bool, uint8_t *, size_t,
@@ -102,6 +107,26 @@ int32_t __wrap_mysql_params_bind_template_wide(const uint8_t *query, size_t quer
     return told != 0 ? tells(report)
                      : __real_mysql_params_bind_template_wide(query, query_len, head, places, places_len, form, form_len,
                                                               mode, room, room_len, report);
+}
+
+int32_t __wrap_mysql_params_bind_template_guarded_wide(const uint8_t *query, size_t query_len,
+                                                       const mysql_params_anywhere_head *head,
+                                                       const mysql_params_place *places, size_t places_len,
+                                                       const uint8_t *form, size_t form_len, bool mode, uint8_t *room,
+                                                       size_t room_len, mysql_params_report *report)
+{
+    return told != 0 ? tells(report)
+                     : __real_mysql_params_bind_template_guarded_wide(query, query_len, head, places, places_len, form,
+                                                                      form_len, mode, room, room_len, report);
+}
+
+int32_t __wrap_mysql_params_bind_fragments_guarded_wide(const uint8_t *query, size_t query_len, const uint8_t *form,
+                                                        size_t form_len, bool mode, uint8_t *room, size_t room_len,
+                                                        mysql_params_report *report)
+{
+    return told != 0 ? tells(report)
+                     : __real_mysql_params_bind_fragments_guarded_wide(query, query_len, form, form_len, mode, room,
+                                                                       room_len, report);
 }
 
 int32_t __wrap_mysql_params_names_wide(const uint8_t *query, size_t query_len, bool mode, uint8_t *room, size_t room_len,

@@ -4,6 +4,7 @@ package mysqlparams
 #cgo LDFLAGS: -Wl,--wrap=malloc,--wrap=calloc,--wrap=realloc,--wrap=free
 #cgo LDFLAGS: -Wl,--wrap=mysql_params_bind_wide,--wrap=mysql_params_names_wide,--wrap=mysql_params_bind_rows_wide
 #cgo LDFLAGS: -Wl,--wrap=mysql_params_first_unportable_wide,--wrap=mysql_params_bind_template_wide
+#cgo LDFLAGS: -Wl,--wrap=mysql_params_bind_template_guarded_wide,--wrap=mysql_params_bind_fragments_guarded_wide
 #include "refused.h"
 */
 import "C"

@@ -1,6 +1,7 @@
 package mysqlparams
 
 import (
+	"context"
 	"database/sql"
 	"errors"
 	"fmt"
@@ -23,12 +24,20 @@ func TestRefusedMemory(t *testing.T) {
 	byName, byMark := strings.Join(names, ", "), strings.Join(marks, ", ")
 	template, err := NewTemplate(BackslashEscapes, byName)
 	must(nil, err)
+	session := &Session{mode: NoBackslashEscapes}
 	for name, call := range map[string]func() (string, error){
 		"Bind":            func() (string, error) { return Bind(BackslashEscapes, byName, named...) },
 		"Bind by marks":   func() (string, error) { return Bind(BackslashEscapes, byMark, values...) },
 		"BindAnywhere":    func() (string, error) { return BindAnywhere(byName, named...) },
 		"BindInBothModes": func() (string, error) { return BindInBothModes(byName, named...) },
 		"a template":      func() (string, error) { return template.Bind(named...) },
+		"a Session":       func() (string, error) { return session.Bind(byName, named...) },
+		"guarded fragments": func() (string, error) {
+			return session.Bind("? ?", In(values), Identifier{"a", "b"})
+		},
+		"plain fragments": func() (string, error) {
+			return session.Bind("? ?", In(values), Identifier{"ü", "b"})
+		},
 		"fragments": func() (string, error) {
 			return Bind(BackslashEscapes, "? ?", In(values),
 				Identifier{"a", "b"})
@@ -103,12 +112,18 @@ func TestOtherArchive(t *testing.T) {
 	defer runtime.UnlockOSThread()
 	template, err := NewTemplate(BackslashEscapes, ":a")
 	must(nil, err)
+	session := &Session{mode: NoBackslashEscapes}
 	calls := map[string]func() error{
+		"a kept query":    func() error { _, err := session.Bind("SELECT :a, 'kept'", sql.Named("a", 1)); return err },
+		"ExecContext":     func() error { _, err := ExecContext(context.Background(), nil, "?", Identifier{"a"}); return err },
 		"a template":      func() error { _, err := template.Bind(sql.Named("a", 1)); return err },
 		"Bind":            func() error { _, err := Bind(BackslashEscapes, "?", 1); return err },
 		"Names":           func() error { _, err := Names(BackslashEscapes, ":a"); return err },
 		"BindRows":        func() error { _, err := BindRows(BackslashEscapes, "?", [][]any{{1}}); return err },
 		"FirstUnportable": func() error { _, err := FirstUnportable(BackslashEscapes, "?"); return err },
+	}
+	for i := 0; i < 2; i++ {
+		must(nil, calls["a kept query"]())
 	}
 	for _, told := range [][2]int{{-7, 0}, {22, 0}, {1000, 1 << 40}} {
 		for name, call := range calls {

@@ -17,6 +17,7 @@ import (
 	"sync"
 	"testing"
 	"time"
+	"unicode/utf8"
 
 	"github.com/go-sql-driver/mysql"
 	"mysqlparams"
@@ -97,6 +98,9 @@ func over(to mysqlparams.Sender) query {
 		return mysqlparams.QueryContext(ctx, to, text, args...)
 	}
 }
+
+// wrapped is a Sender that can't be asked.
+type wrapped struct{ mysqlparams.Sender }
 
 // session returns a connection that was asked.
 func session(t *testing.T, db *sql.DB) *mysqlparams.Session {
@@ -226,10 +230,93 @@ func TestStored(t *testing.T) {
 	if found := over(db).one(t, "SELECT name FROM shop.t WHERE id = ?", 7); found != `\' -- ` {
 		t.Error(found)
 	}
-	// After SEPARATOR a server wants a plain text: a session sends one.
-	const separated = "SELECT GROUP_CONCAT(name ORDER BY id SEPARATOR ?) FROM shop.t WHERE id IN (?)"
-	if found := query(session(t, db).QueryContext).one(t, separated, "', '", []int{1, 2}); found != "a', 'b" {
-		t.Error(found)
+}
+
+// TestPlacesThatWantAPlainText has guarded literals where a server takes no steady ones.
+func TestPlacesThatWantAPlainText(t *testing.T) {
+	ctx, db := context.Background(), open(t, map[string]string{"sql_mode": withEscapes}, false)
+	for _, c := range []struct{ query, value, wanted string }{
+		{"SELECT GROUP_CONCAT(a ORDER BY a SEPARATOR ?) FROM (SELECT 1 a UNION SELECT 2) t", "', 'é", "1', 'é2"},
+		{"SELECT DATE ?", "2019-11-27", "2019-11-27"},
+		{"SHOW CHARACTER SET LIKE ?", "latin1", ""},
+	} {
+		for name, send := range map[string]query{"a pool": over(db), "a session": session(t, db).QueryContext} {
+			if c.wanted != "" {
+				if found := send.one(t, c.query, c.value); found != c.wanted {
+					t.Errorf("%s: %s: %v", name, c.query, found)
+				}
+				continue
+			}
+			rows, err := send(ctx, c.query, c.value)
+			check(t, err)
+			if !rows.Next() || rows.Next() {
+				t.Errorf("%s: %s: not one row", name, c.query)
+			}
+			check(t, rows.Close())
+		}
+		if _, err := (mysqlparams.Binder{Steady: true}).QueryContext(ctx, db, c.query, c.value); numberOf(err) != 1064 {
+			t.Errorf("%s: %v", c.query, err)
+		}
+	}
+}
+
+// numberOf returns the number of a server's error.
+func numberOf(err error) uint16 {
+	var refused *mysql.MySQLError
+	if errors.As(err, &refused) {
+		return refused.Number
+	}
+	return 0
+}
+
+// TestOtherCollations has texts compared, over a connection whose collation isn't utf8mb4's own.
+func TestOtherCollations(t *testing.T) {
+	ctx := context.Background()
+	db := open(t, map[string]string{"sql_mode": withEscapes, "collation_connection": "utf8mb4_unicode_ci"}, false)
+	for _, c := range []struct {
+		query, wanted string
+		value         any
+	}{
+		{"SELECT DATE_FORMAT('2019-11-27', '%Y-%m') = ?", "1", "2019-11"},
+		{"SELECT CONCAT('it', '''s') LIKE ?", "1", "%'s"},
+		{"SELECT CASE DAYNAME('2019-11-27') WHEN ? THEN 'yes' END", "yes", "Wednesday"},
+		{"SELECT CONCAT(DATE_FORMAT('2019-11-27', '%Y'), 'é') = ?", "1", "2019é"},
+	} {
+		for name, send := range map[string]query{"a pool": over(db), "a session": session(t, db).QueryContext} {
+			if found := send.one(t, c.query, c.value); found != c.wanted {
+				t.Errorf("%s: %s: %v", name, c.query, found)
+			}
+		}
+	}
+	steady := mysqlparams.Binder{Steady: true}
+	if _, err := steady.QueryContext(ctx, db, "SELECT DATE_FORMAT('2019-11-27', '%Y-%m') = ?", "2019-11"); numberOf(err) != 1267 {
+		t.Error(err)
+	}
+}
+
+// TestModesThatWereNotTold has a session's connection set to another mode behind its back: each value stays a value, if perhaps
+// with each backslash doubled.
+func TestModesThatWereNotTold(t *testing.T) {
+	ctx, db := context.Background(), open(t, nil, false)
+	for told, other := range map[string]string{withEscapes: withoutEscapes, withoutEscapes: withEscapes} {
+		conn, err := db.Conn(ctx)
+		check(t, err)
+		_, err = conn.ExecContext(ctx, "SET sql_mode = "+told)
+		check(t, err)
+		asked, err := mysqlparams.Ask(ctx, conn)
+		check(t, err)
+		_, err = conn.ExecContext(ctx, "SET sql_mode = "+other)
+		check(t, err)
+		for _, value := range hostile {
+			doubled := value
+			if utf8.ValidString(value) && told == withEscapes {
+				doubled = strings.ReplaceAll(value, `\`, `\\`)
+			}
+			if found := query(asked.QueryContext).one(t, "SELECT ? /* no more */", value); found != doubled {
+				t.Errorf("%s: %q is %q", told, value, found)
+			}
+		}
+		check(t, conn.Close())
 	}
 }
 
@@ -285,7 +372,7 @@ func TestFirstCall(t *testing.T) {
 	}
 }
 
-// TestOtherCharacterSets has a session refused, and texts for any connection right all the same.
+// TestOtherCharacterSets has a session refused, and each value right all the same.
 func TestOtherCharacterSets(t *testing.T) {
 	for _, charset := range []string{"gbk", "latin1", "sjis", "utf8mb3"} {
 		db := open(t, map[string]string{"charset": charset, "sql_mode": withEscapes}, false)
@@ -300,8 +387,10 @@ func TestOtherCharacterSets(t *testing.T) {
 		}
 		for _, value := range hostile {
 			wanted := strings.ToUpper(fmt.Sprintf("%x", value))
-			if found := over(conn).one(t, "SELECT HEX(?)", value); found != wanted {
-				t.Errorf("%s: %q is %q", charset, value, found)
+			for _, to := range []mysqlparams.Sender{conn, db, wrapped{db}} {
+				if found := over(to).one(t, "SELECT HEX(?)", value); found != wanted {
+					t.Errorf("%s: %q over a %T is %q", charset, value, to, found)
+				}
 			}
 		}
 		check(t, conn.Close())

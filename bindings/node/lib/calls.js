@@ -111,9 +111,11 @@ function boundForm(flags, query, given) {
   return withForm(given, (form) => textOf(flags, query, form))
 }
 
-/** The text of a query and parameters that were written before. */
+/** The text of a query that is a string, and of parameters that were written before. */
 function boundWritten(flags, query, written) {
-  return boundForm(written.isFragments ? flags | FRAGMENTS : flags, query, written.form)
+  const all = written.isFragments ? flags | FRAGMENTS : flags
+  const kept = keptOf(query, flags)
+  return withForm(written.form, (form) => (kept === undefined ? textOf(all, query, form) : kept.textOf(all, form)))
 }
 
 function bindForm(query, form, options = {}) {

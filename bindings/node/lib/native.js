@@ -28,6 +28,7 @@ module.exports = {
   BIND: 0,
   ANYWHERE: 1,
   BOTH_MODES: 2,
+  FOR_CONNECTION: 3,
   MODE: 4,
   FRAGMENTS: 8,
   BYTES: 16,

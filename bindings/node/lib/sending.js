@@ -2,16 +2,16 @@
 // Bound texts sent over a connection of `mysql` or `mysql2`, which is asked for what a text depends on.
 
 const { isNativeError } = require('node:util/types')
-const { BIND, CHECKED, native } = require('./native.js')
+const { ANYWHERE, CHECKED, FOR_CONNECTION } = require('./native.js')
 const { judgeQuery } = require('./asked.js')
-const { BindError, SessionError, refusalOf } = require('./errors.js')
+const { BindError, SessionError } = require('./errors.js')
 const { giveForm, takeForm, writeParams } = require('./form.js')
 const { ownOf } = require('./objects.js')
 const { WANTED, forgetAll, sessionOf } = require('./session.js')
 const calls = require('./calls.js')
 const dates = require('./dates.js')
 
-const OPTIONS = ['timezone', 'alwaysAsk']
+const OPTIONS = ['timezone', 'alwaysAsk', 'steady']
 
 /** Whether a number is that of a collation of utf8mb4 in MySQL. */
 function isUtf8mb4(number) {
@@ -63,12 +63,13 @@ function writtenOf(params, zone) {
   }
 }
 
-/** The text of a query in the mode of a connection, or what refuses it. */
-function textFor(connection, told, query, written) {
-  const flags = BIND | told.mode
-  const found = native.firstUnportable(flags | CHECKED, query) // It was looked at before the connection was asked.
-  if (found !== 0) throw refusalOf(found, query, flags)
-  const text = calls.boundWritten(flags, query, written)
+/**
+ * The text for a connection, or what refuses it. The archive decides whether its literals are guarded, so that no other mode and no
+ * character set except swe7 ends them elsewhere, or plain. A steady text is the same in each mode.
+ */
+function textFor(connection, told, { query, written, steady }) {
+  const flags = steady ? ANYWHERE : FOR_CONNECTION | told.mode
+  const text = calls.boundWritten(flags | CHECKED, query, written) // It was looked at before the connection was asked.
   const length = Buffer.byteLength(text)
   if (length !== text.length) judgeEncoding(connection) // The text isn't ASCII.
   if (length > told.most) {
@@ -79,23 +80,24 @@ function textFor(connection, told, query, written) {
 }
 
 /** Sends over one connection, and calls with what the driver answers. */
-function sendOver(connection, query, written, always, done) {
+function sendOver(connection, call, done) {
   judge(connection)
   const session = sessionOf(connection)
-  session.ask(always, (error, told) => {
+  session.ask(call.always, (error, told) => {
     try {
       if (error) throw error
-      session.send(query, textFor(connection, told, query, written), done)
+      session.send(call.query, textFor(connection, told, call), done)
     } catch (fault) {
       done(fault)
     }
   })
 }
 
-/** Whether a connection is to be asked before each text. */
-function isAlways(alwaysAsk) {
-  if (alwaysAsk === undefined || alwaysAsk === true || alwaysAsk === false) return alwaysAsk === true
-  throw new TypeError('alwaysAsk is true or false')
+/** Whether an option is true; it isn't if it isn't given. */
+function isTrue(options, name) {
+  const given = options[name]
+  if (given === undefined || given === true || given === false) return given === true
+  throw new TypeError(`${name} is true or false`)
 }
 
 /** Sends over a connection, or one of a pool, which gets it back. */
@@ -105,9 +107,9 @@ function send(given, query, params, options, done) {
   judgeQuery(query)
   const core = coreOf(given)
   const written = writtenOf(params, dates.zoneOf(own.timezone))
-  const always = isAlways(own.alwaysAsk)
+  const call = { query, written, always: isTrue(own, 'alwaysAsk'), steady: isTrue(own, 'steady') }
   if (!isPool(core)) {
-    sendOver(core, query, written, always, done)
+    sendOver(core, call, done)
     return
   }
   core.getConnection((error, connection) => {
@@ -120,7 +122,7 @@ function send(given, query, params, options, done) {
       done(...answer)
     }
     try {
-      sendOver(connection, query, written, always, release)
+      sendOver(connection, call, release)
     } catch (fault) {
       release(fault)
     }

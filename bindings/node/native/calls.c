@@ -27,10 +27,22 @@ static int32_t ask_in_mode(const question *q, uint8_t *room, size_t len, mysql_p
     return mysql_params_bind_wide(q->query, q->query_len, q->form, q->form_len, mode, room, len, report);
 }
 
+/* Asks for the text that is sent over a connection of a mode, by the template if there is one. */
+static int32_t ask_for_connection(const question *q, uint8_t *room, size_t len, mysql_params_report *report)
+{
+    bool mode = (q->flags & FLAG_MODE) != 0, is_fragments = (q->flags & FLAG_FRAGMENTS) != 0;
+    if (q->made != NULL)
+        return mysql_params_template_bind_for_connection(q->made, q->form, q->form_len, is_fragments, mode, room, len, report);
+    return mysql_params_bind_for_connection_wide(q->query, q->query_len, q->form, q->form_len, is_fragments, mode, room, len,
+                                                 report);
+}
+
 static int32_t ask(const question *q, uint8_t *room, size_t len, mysql_params_report *report)
 {
     bool is_fragments = (q->flags & FLAG_FRAGMENTS) != 0;
     switch (q->flags & CALLS) {
+    case CALL_FOR_CONNECTION:
+        return ask_for_connection(q, room, len, report);
     case CALL_ANYWHERE:
         if (is_fragments)
             return mysql_params_bind_fragments_anywhere_wide(q->query, q->query_len, q->form, q->form_len, room, len, report);
@@ -88,7 +100,7 @@ static napi_value long_answer(napi_env env, const question *q, size_t len)
 
 static napi_value answer(napi_env env, const native_state *state, const question *q)
 {
-    /* A literal has at most twice the bytes of its value; those of a steady text, and of items, have more beside them. */
+    /* A literal has at most twice the bytes of its value; those of other texts, and of items, have more beside them. */
     size_t factor = (q->flags & (CALLS | FLAG_FRAGMENTS)) != 0 ? 4 : 2;
     size_t guess = q->form_len > PTRDIFF_MAX / 8 ? SIZE_MAX / 2 : q->query_len + factor * q->form_len + MORE_ROOM;
     if (guess > KEPT_ROOM)

@@ -29,6 +29,7 @@ enum {
     CALL_BIND = 0,
     CALL_ANYWHERE = 1,
     CALL_BOTH_MODES = 2,
+    CALL_FOR_CONNECTION = 3, /* the text that is sent over a connection of the mode */
     CALLS = 3,
     FLAG_MODE = 4,       /* without backslash escapes */
     FLAG_FRAGMENTS = 8,  /* the form is for the calls that bind fragments */

@@ -4,8 +4,12 @@
 // `node --expose-gc`.
 
 const assert = require('node:assert/strict')
+const path = require('node:path')
 const { test } = require('node:test')
 const { mysqlParams } = require('./shared_cases.js')
+
+const { FOR_CONNECTION } = require(path.resolve(process.env.MYSQL_PARAMS, 'lib/native.js'))
+const { boundWritten } = require(path.resolve(process.env.MYSQL_PARAMS, 'lib/calls.js'))
 
 const { Assignments, Decimal, Double, Identifier, In, Keyword, Template, bind, bindAnywhere, bindForm, bindInBothModes,
   bindRows } = mysqlParams
@@ -38,6 +42,8 @@ const ANSWERS = {
   form: () => bindForm('?', form('000600')),
   template: () => TEMPLATE.bind({ a: new In([1, 2]) }),
   'new template': () => new Template('?, ?').bindForm(form('000600000600')),
+  'for a connection': () => boundWritten(FOR_CONNECTION, '?', { form: form('000600'), isFragments: false }),
+  'plain for a connection': () => boundWritten(FOR_CONNECTION, '? /* é */', { form: form('000600'), isFragments: true }),
   rows: () => bindRows('?, ?', [[1, 'a'], [0.5, null], [3, 'b']]),
   'names of a query': () => mysqlParams.names(':a, :b'),
   portable: () => mysqlParams.firstUnportable(':a'),

@@ -9,6 +9,7 @@ const os = require('node:os')
 const path = require('node:path')
 const { after, before, test } = require('node:test')
 const vm = require('node:vm')
+const { Telling } = require('./played.js')
 const { mysqlParams } = require('./shared_cases.js')
 const server = require('./server.js')
 
@@ -123,6 +124,17 @@ test('the examples within the text', () => {
   assert.equal(bind('lbl: LOOP'), 'lbl: LOOP')
   assert.equal(bind(':user_id, :userId, :ID, :id', { user_id: 1, userId: 2, ID: 3, id: 4 }), '1, 2, 3, 4')
   assert.equal(firstUnportable('SELECT /*! :a */ 1').construct, 'EXECUTABLE_COMMENT')
+})
+
+test('what the call of the page sends', async () => {
+  const [, program, text] = /^```js\n(.*?)^```\n.*?^This sends `(.*?)`\./ms.exec(PAGE)
+  const [, sql, params] = /query\(connection, '(.*?)', (\{.*\})\)$/m.exec(program)
+  const connection = new Telling()
+  await mysqlParams.query(connection, sql, valueOf(params))
+  assert.deepEqual(connection.sent, [text])
+  await mysqlParams.query(connection, 'SELECT ?', ["it's"])
+  assert.ok(PAGE.includes("`'it''s'`"))
+  assert.equal(connection.sent[1], "SELECT 'it''s'")
 })
 
 test('the types say when each kind comes, and have those of the header', () => {

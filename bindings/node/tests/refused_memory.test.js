@@ -2,14 +2,20 @@
 // Memory that is refused to the addon, which refusing.c stands in for: a RangeError, and no harm.
 
 const assert = require('node:assert/strict')
+const path = require('node:path')
 const { test } = require('node:test')
 const { mysqlParams } = require('./shared_cases.js')
+
+const { FOR_CONNECTION } = require(path.resolve(process.env.MYSQL_PARAMS, 'lib/native.js'))
+const { boundWritten } = require(path.resolve(process.env.MYSQL_PARAMS, 'lib/calls.js'))
 
 const { Assignments, Identifier, In, Template, bind, bindAnywhere, bindForm, bindInBothModes, bindRows, firstUnportable,
   names } = mysqlParams
 
 const LONG = 'x'.repeat(1 << 17)
 const made = new Template(':a, :B')
+// `A` is "it's" in the form.
+const NAMED = Buffer.from("\x01A\xfd\x00\x04it's", 'latin1')
 
 const CALLS = {
   bind: () => bind(':a, :b, :a', { a: 1, b: "it's" }),
@@ -28,6 +34,9 @@ const CALLS = {
   rows: () => bindRows(':a, :B', [{ a: 1, B: 'x' }, { a: LONG, B: null }, { a: 0.5, B: new In([1]) }]),
   template: () => made.bind({ a: 1, B: LONG }),
   'new template': () => new Template('SELECT :a, :B').bind({ a: 1, B: 2 }),
+  'for a connection': () => boundWritten(FOR_CONNECTION, ':A, :A', { form: NAMED, isFragments: false }),
+  'long for a connection': () => boundWritten(FOR_CONNECTION, `/*${LONG}*/ :A`, { form: NAMED, isFragments: true }),
+  'plain for a connection': () => boundWritten(FOR_CONNECTION, '/* é */ :A, :A', { form: NAMED, isFragments: false }),
   names: () => names('SELECT :A, :b').names,
   portable: () => firstUnportable('SELECT :A'),
   refusal: () => {

@@ -1,124 +1,18 @@
 'use strict'
-// Texts sent over drivers that are played here, in the shapes of mysql2 and mysql: server.test.js has a real driver and server.
+// Texts sent over drivers that are played, in the shapes of mysql2 and mysql: server.test.js has a real driver and server.
 
 const assert = require('node:assert/strict')
-const { EventEmitter } = require('node:events')
 const { test } = require('node:test')
+const { Connection, Query, Telling } = require('./played.js')
 const { mysqlParams } = require('./shared_cases.js')
 
-const { askAgain, bind, execute, query } = mysqlParams
+const { askAgain, execute, query } = mysqlParams
 const HOSTILE = "\\' , 7 #"
-const QUESTION = /^SELECT @@sql_mode AS m,/
+// It as a guarded literal, with backslash escapes and without.
+const [HOSTILE_ESCAPED, HOSTILE_BARE] = ["'\\\\'' , 7 #'", '_utf8mb4 0x5C27202C20372023']
 
-/** A queue of commands, as mysql2's connections have one. */
-class Queue {
-  #commands = []
-  #first = 0
-
-  get length() {
-    return this.#commands.length - this.#first
-  }
-
-  toArray() {
-    return this.#commands.slice(this.#first)
-  }
-
-  push(command) {
-    this.#commands.push(command)
-  }
-
-  shift() {
-    return this.length === 0 ? undefined : this.#commands[this.#first++]
-  }
-}
-
-/** A connection as mysql2's to a session that is played: one command after another, and nothing tells of them. */
-class Connection extends EventEmitter {
-  constructor(session = {}, config = {}) {
-    super()
-    this.session = { m: '', c: 'utf8mb4', n: 'utf8mb4', p: 1 << 20, ...session }
-    this.config = { charsetNumber: 224, ...config }
-    this.queue = new Queue()
-    Object.assign(this, { threadId: 7, asked: 0, sent: [], released: 0, _commands: this.queue, _command: undefined })
-  }
-
-  query(options, done) {
-    const isOurs = typeof options === 'object'
-    const command = this.commandOf(isOurs ? options.sql : options, done)
-    if (isOurs) this.judge(options)
-    this.enqueue(command)
-    return command
-  }
-
-  enqueue(command) {
-    if (this._command) this.queue.push(command)
-    else this.start(command)
-  }
-
-  /** The options of the package hide what stands on Object.prototype. */
-  judge(options) {
-    assert.equal(Object.getPrototypeOf(options), Object.prototype)
-    assert.deepEqual(Object.keys(options).sort(),
-      ['infileStreamFactory', 'nestTables', 'rowsAsArray', 'sql', 'timeout', 'typeCast', 'values'])
-    const { sql, values, timeout, infileStreamFactory, ...others } = options
-    assert.deepEqual([values, timeout, infileStreamFactory], [[], undefined, undefined])
-    const { typeCast, nestTables, rowsAsArray } = Object.assign(Object.create(null), this.config)
-    const ofQuestion = { typeCast: true, nestTables: false, rowsAsArray: false }
-    assert.deepEqual(others, QUESTION.test(sql) ? ofQuestion : { typeCast, nestTables, rowsAsArray })
-  }
-
-  commandOf(sql, done) {
-    assert.equal(typeof sql, 'string')
-    assert.equal(typeof done, 'function')
-    return Object.assign(new Query(sql), { done })
-  }
-
-  start(command) {
-    this._command = command
-    setImmediate(() => {
-      const answer = this.run(command.sql)
-      this._command = this.queue.shift()
-      if (this._command) this.start(this._command)
-      process.nextTick(() => command.done(this.fault ?? null, answer, ['fields']))
-    })
-  }
-
-  run(sql) {
-    if (QUESTION.test(sql)) {
-      this.asked++
-      return [{ ...this.session }]
-    }
-    const [, mode] = /SET sql_mode = '(.*)'/.exec(sql) ?? []
-    if (mode !== undefined) this.session.m = mode
-    this.sent.push(sql)
-    return { affectedRows: this.sent.length }
-  }
-
-  /** Sends a text of the program's own. */
-  plain(sql) {
-    return new Promise((resolve) => this.query(sql, resolve))
-  }
-
-  release() {
-    this.released++
-  }
-}
-
-class Query {
-  constructor(sql) {
-    this.sql = sql
-  }
-}
-
-/** A connection as those of mysql, which tells of each command by an event. */
-class Telling extends Connection {
-  enqueue(command) {
-    super.enqueue(command)
-    this.emit('enqueue', command)
-  }
-}
-
-const [PLAIN, ESCAPED] = ["SELECT '\\'", "SELECT '\\\\'"]
+// What is sent for a backslash, without backslash escapes and with them.
+const [BARE, ESCAPED] = ['SELECT _utf8mb4 0x5C', "SELECT '\\\\'"]
 const [WITHOUT, WITH] = ["SET sql_mode = 'NO_BACKSLASH_ESCAPES'", "SET sql_mode = ''"]
 
 test('a connection that tells of its commands is asked once', async () => {
@@ -126,7 +20,7 @@ test('a connection that tells of its commands is asked once', async () => {
   assert.deepEqual(await query(connection, 'SELECT ?', [HOSTILE]), [{ affectedRows: 1 }, ['fields']])
   assert.deepEqual(await execute(connection, 'SELECT ?', [HOSTILE]), { affectedRows: 2 })
   await Promise.all([1, 2, 3].map((id) => query(connection, 'SELECT :id', { id })))
-  assert.deepEqual(connection.sent, [...Array(2).fill("SELECT '\\\\\\' , 7 #'"), 'SELECT 1', 'SELECT 2', 'SELECT 3'])
+  assert.deepEqual(connection.sent, [...Array(2).fill(`SELECT ${HOSTILE_ESCAPED}`), 'SELECT 1', 'SELECT 2', 'SELECT 3'])
   assert.equal(connection.asked, 1)
 })
 
@@ -136,7 +30,7 @@ test('a connection that tells of no command is asked before each text', async ()
     await connection.plain(mode)
     await query(connection, 'SELECT ?', ['\\'])
   }
-  assert.deepEqual(connection.sent, [WITHOUT, PLAIN, WITH, ESCAPED, WITHOUT, PLAIN])
+  assert.deepEqual(connection.sent, [WITHOUT, BARE, WITH, ESCAPED, WITHOUT, BARE])
   assert.equal(connection.asked, 3)
 })
 
@@ -166,7 +60,7 @@ test('calls at once, of which one changes the mode', async () => {
     const sent = [query(connection, 'SELECT ?', ['\\']), query(connection, 'SET sql_mode = ?', ['NO_BACKSLASH_ESCAPES']),
       query(connection, 'SELECT ?', ['\\']), query(connection, 'SELECT ?', ['\\'])]
     await Promise.all(sent)
-    assert.deepEqual([connection.asked, connection.sent], [2, [ESCAPED, WITHOUT, PLAIN, PLAIN]])
+    assert.deepEqual([connection.asked, connection.sent], [2, [ESCAPED, WITHOUT, BARE, BARE]])
   }
 })
 
@@ -174,7 +68,7 @@ test('the mode of the connection', async () => {
   for (const mode of ['NO_BACKSLASH_ESCAPES', 'ANSI,no_backslash_escapes', 'STRICT_TRANS_TABLES,NO_BACKSLASH_ESCAPES']) {
     const connection = new Connection({ m: Buffer.from(mode) })
     await query(connection, 'SELECT ?', [HOSTILE])
-    assert.deepEqual(connection.sent, ["SELECT '\\'' , 7 #'"])
+    assert.deepEqual(connection.sent, [`SELECT ${HOSTILE_BARE}`])
   }
   const connection = new Connection({ m: 'MY_NO_BACKSLASH_ESCAPES' })
   await query(connection, 'SELECT ?', ['\\'])
@@ -195,7 +89,7 @@ test('it is asked again', async () => {
   connection.session.m = ''
   await query(connection, 'SET sql_mode = ?', [''])
   await query(connection, 'SELECT ?', ['\\'])
-  assert.deepEqual(connection.sent, [ESCAPED, PLAIN, ESCAPED, PLAIN, WITH, ESCAPED])
+  assert.deepEqual(connection.sent, [ESCAPED, BARE, ESCAPED, BARE, WITH, ESCAPED])
   assert.equal(connection.asked, 5)
   askAgain(new Connection()) // It wasn't asked yet.
   await assert.rejects(query(connection, 'SELECT 1', [], { alwaysAsk: 1 }),
@@ -206,7 +100,7 @@ test('the connections of a pool are asked again', async () => {
   const connections = [new Telling(), new Telling()]
   const pool = { query() {}, getConnection: (done) => done(null, connections[0]) }
   for (const given of [pool, { pool, query() {} }]) {
-    for (const [mode, wanted] of [['', ESCAPED], ['NO_BACKSLASH_ESCAPES', PLAIN]]) {
+    for (const [mode, wanted] of [['', ESCAPED], ['NO_BACKSLASH_ESCAPES', BARE]]) {
       for (const connection of connections) connection.session.m = mode
       askAgain(given)
       await query(given, 'SELECT ?', ['\\'])
@@ -228,7 +122,7 @@ test('it is asked again while a question is under way', async () => {
   connection.session.m = 'NO_BACKSLASH_ESCAPES' // The program has sent a SET behind the question.
   askAgain(connection)
   await sent
-  assert.deepEqual([connection.sent, connection.asked], [[PLAIN], 2])
+  assert.deepEqual([connection.sent, connection.asked], [[BARE], 2])
   const always = query(connection, 'SELECT ?', ['\\'], { alwaysAsk: true })
   const other = query(connection, 'SELECT ?', ['\\'], { alwaysAsk: true })
   connection.session.m = ''
@@ -242,7 +136,7 @@ test('commands of the program behind a question', async () => {
     const set = connection.plain(WITHOUT)
     const other = connection.plain('SELECT 1')
     await sent
-    assert.deepEqual([connection.sent, connection.asked], [[WITHOUT, 'SELECT 1', PLAIN], 2])
+    assert.deepEqual([connection.sent, connection.asked], [[WITHOUT, 'SELECT 1', BARE], 2])
     await Promise.all([set, other])
     await connection.plain(WITH)
     const again = query(connection, 'SELECT ?', ['\\'])
@@ -255,7 +149,7 @@ test('commands of the program behind a question', async () => {
   const connection = new Connection({}, { charsetNumber: 8 })
   const sent = query(connection, 'SELECT ?', ['\\'])
   await Promise.all([sent, connection.plain(`SELECT 1Ļ ${WITHOUT}`)])
-  assert.deepEqual(connection.sent.at(-1), PLAIN)
+  assert.deepEqual(connection.sent.at(-1), BARE)
 })
 
 test('no text is read in another mode, in whatever order commands come', async () => {
@@ -269,9 +163,9 @@ test('no text is read in another mode, in whatever order commands come', async (
     const { run } = connection
     let texts = 0
     connection.run = function (sql) {
-      if (sql === PLAIN || sql === ESCAPED) {
+      if (sql === BARE || sql === ESCAPED) {
         texts++
-        assert.equal(sql, this.session.m === '' ? ESCAPED : PLAIN, `round ${round}`)
+        assert.equal(sql, this.session.m === '' ? ESCAPED : BARE, `round ${round}`)
       }
       return run.call(this, sql)
     }
@@ -333,8 +227,8 @@ test('a text that the driver would write in another character set', async () => 
     assert.equal(new TextDecoder(name).decode(bytes), letter)
     const value = `${letter}' OR 1=1 -- `
     // What a server with utf8mb4 would read behind the string.
-    const written = bind('SELECT ?', [value]).replace(letter, bytes.toString('latin1'))
-    assert.equal(written.replace(/^SELECT '(?:[^'\\]|\\.)*'/s, ''), " OR 1=1 -- '")
+    const written = `SELECT '${value.replace("'", "''")}'`.replace(letter, bytes.toString('latin1'))
+    assert.equal(written.replace(/^SELECT '(?:[^'\\]|\\.|'')*'/s, ''), " OR 1=1 -- '")
     for (const charsetNumber of numbers) {
       const connection = new Connection({}, { charsetNumber })
       const message = `The driver writes texts by charsetNumber ${charsetNumber}, not utf8mb4's, and this one isn't ASCII: ` +
@@ -343,7 +237,7 @@ test('a text that the driver would write in another character set', async () => 
       await assert.rejects(query(connection, 'SELECT ?', [value]), wanted)
       await assert.rejects(execute(connection, `SELECT '${letter}', ?`, [1]), wanted)
       await query(connection, 'SELECT ?', [HOSTILE])
-      assert.deepEqual(connection.sent, ["SELECT '\\\\\\' , 7 #'"])
+      assert.deepEqual(connection.sent, [`SELECT ${HOSTILE_ESCAPED}`])
     }
   }
   assert.equal(Buffer.from('ħ', 'latin1').toString('latin1'), "'") // As mysql2 writes Latin-1.
@@ -469,13 +363,13 @@ test('commands within the driver\'s call', async () => {
   const other = new Telling()
   other.once('enqueue', () => other.plain(WITHOUT))
   await query(other, 'SELECT ?', ['\\'])
-  assert.deepEqual([other.sent, other.asked], [[WITHOUT, PLAIN], 2])
+  assert.deepEqual([other.sent, other.asked], [[WITHOUT, BARE], 2])
 })
 
 test('a polluted Object.prototype', async () => {
   const inner = { query: () => assert.fail() }
   const polluted = { values: ['x'], typeCast: () => 'x', timeout: 1, nestTables: '_', rowsAsArray: true, charsetNumber: 224,
-    infileStreamFactory: () => {}, noBackslashEscape: true, alwaysAsk: true, pool: inner, connection: inner }
+    infileStreamFactory: () => {}, noBackslashEscape: true, alwaysAsk: true, steady: true, pool: inner, connection: inner }
   for (const [name, value] of Object.entries(polluted)) {
     // eslint-disable-next-line no-extend-native
     Object.defineProperty(Object.prototype, name, { value, configurable: true, writable: true })

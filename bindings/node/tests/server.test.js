@@ -43,6 +43,14 @@ function plain(connection, sql) {
   return promisify(connection.query).call(connection, sql)
 }
 
+/** Sends a text by the driver, which doesn't tell the package of it. */
+async function unseen(connection, sql) {
+  const listeners = connection.listeners('enqueue')
+  connection.removeAllListeners('enqueue')
+  await plain(connection, sql)
+  for (const listener of listeners) connection.on('enqueue', listener)
+}
+
 before(async () => {
   if (skip) return
   running = await server.start()
@@ -74,6 +82,41 @@ test('hostile values come back, in each mode', { skip }, async () => {
     // As node-mysql writes it, the 7 runs without backslash escapes.
     const [rows] = await query(connection, "SELECT ?, '1'", ["\\', 7 #"])
     assert.equal(Object.keys(rows[0]).length, 2)
+  }
+})
+
+test('steady texts, in each mode', { skip }, async () => {
+  const connection = connect()
+  for (const mode of MODES) {
+    await plain(connection, `SET sql_mode = '${mode}'`)
+    for (const value of HOSTILE) {
+      const [[row]] = await query(connection, 'SELECT :a AS a, :b AS b', { a: value, b: 7 }, { steady: true })
+      assert.deepEqual({ ...row }, { a: value, b: 7 })
+    }
+  }
+  await assert.rejects(query(connection, "SELECT 'é', ?", [1], { steady: true }), { kind: 'UNSTEADY', position: 8 })
+})
+
+test('no value runs in a session that has changed, and the package was not told', { skip }, async () => {
+  const values = [...HOSTILE, "誠' AS a, 'x' AS b, 7 -- ", "é\\' AS a, 'x' AS b, 7 -- ", '誠\\', Buffer.from([191, 39, 32, 55])]
+  for (const [told, other] of [['', 'NO_BACKSLASH_ESCAPES'], ['NO_BACKSLASH_ESCAPES', '']]) {
+    for (const charset of ['utf8mb4', 'gbk', 'sjis', 'big5', 'latin1']) {
+      const connection = connect()
+      await plain(connection, `SET sql_mode = '${told}'`)
+      await query(connection, 'SELECT 1')
+      await unseen(connection, `SET sql_mode = '${other}'`)
+      await unseen(connection, `SET NAMES ${charset}`)
+      const before = await asked(connection)
+      for (const value of values) {
+        const [[row]] = await query(connection, "SELECT :a AS a, 'kept' AS b, :c AS c", { a: value, c: value })
+        assert.deepEqual([Object.keys(row), row.b], [['a', 'b', 'c'], 'kept'])
+        if (charset !== 'utf8mb4' || typeof value !== 'string') continue
+        // Where no backslash is an escape, one that was doubled for the other mode stays two.
+        assert.equal(row.a, told === '' ? value.replaceAll('\\', '\\\\') : value)
+      }
+      assert.equal(await asked(connection) - before, values.length + 1)
+      connection.destroy()
+    }
   }
 })
 

@@ -31,7 +31,7 @@ const all: typeof bind = mysqlParams.bind
 declare const connection: { query(sql: string, done: () => void): void }
 async function sent(): Promise<void> {
   const [results, fields] = await query(connection, 'SELECT ?', [1], { alwaysAsk: true })
-  const { affectedRows } = await execute(connection, 'DELETE FROM t WHERE id = :id', { id: 1 })
+  const { affectedRows } = await execute(connection, 'DELETE FROM t WHERE id = :id', { id: 1 }, { steady: true })
   askAgain(connection)
   void [results, fields, affectedRows]
 }
@@ -93,6 +93,10 @@ new Keyword('ASC', 'ASC')
 new Identifier()
 // @ts-expect-error
 query({}, 'SELECT 1')
+// @ts-expect-error
+query(connection, 'SELECT 1', [], { steady: 'yes' })
+// @ts-expect-error
+bindAnywhere('SELECT 1', [], { steady: true })
 
 void [several, columns, changed, ofMap, first]
 void [text, bytes, named, mapped, lists, plain, rows, template, ofBytes, found, construct, all, sent]

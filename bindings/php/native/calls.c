@@ -21,6 +21,16 @@ static int32_t ask_in_mode(const question *q, uint8_t *room, size_t len, mysql_p
     return mysql_params_bind_wide(q->query.at, q->query.len, q->form.at, q->form.len, q->mode, room, len, report);
 }
 
+/* Asks for the text to send over a connection, by the template if there is one: it serves either mode. */
+static int32_t ask_for_connection(const question *q, uint8_t *room, size_t len, mysql_params_report *report)
+{
+    if (q->made != NULL)
+        return mysql_params_template_bind_for_connection(q->made, q->form.at, q->form.len, q->is_fragments, q->mode, room,
+                                                         len, report);
+    return mysql_params_bind_for_connection_wide(q->query.at, q->query.len, q->form.at, q->form.len, q->is_fragments, q->mode,
+                                                 room, len, report);
+}
+
 static int32_t ask(const question *q, uint8_t *room, size_t len, mysql_params_report *report)
 {
     bytes query = q->query, form = q->form;
@@ -35,6 +45,8 @@ static int32_t ask(const question *q, uint8_t *room, size_t len, mysql_params_re
         if (q->made != NULL)
             return mysql_params_template_bind_anywhere(q->made, form.at, form.len, room, len, report);
         return mysql_params_bind_anywhere_wide(query.at, query.len, form.at, form.len, room, len, report);
+    case CALL_CONNECTION:
+        return ask_for_connection(q, room, len, report);
     case CALL_BIND:
         break;
     }
@@ -103,6 +115,13 @@ zend_string *answer(const question *question)
     return NULL;
 }
 
+zend_string *answer_again(question *question)
+{
+    if (question->again != NULL && !question->is_fragments)
+        question->made = kept_template(question->again);
+    return answer(question);
+}
+
 bool take_mode(zval *given, uint32_t argument, bool *mode)
 {
     *mode = given != NULL && Z_TYPE_P(given) == IS_TRUE;
@@ -123,9 +142,7 @@ zend_string *bound(question *question, HashTable *params, enum level level)
         question->form = (bytes){form.bytes, form.len};
         question->values = form.values;
         question->is_fragments = form.is_fragments && level == LEVEL_PLACES;
-        if (question->again != NULL && !question->is_fragments)
-            question->made = kept_template(question->again);
-        text = answer(question);
+        text = answer_again(question);
     }
     form_free(&form);
     return text;

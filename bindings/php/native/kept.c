@@ -1,4 +1,5 @@
-/* kept.c: templates of queries that bind_anywhere, and bind in the mode with backslash escapes, are given again and again. */
+/* kept.c: templates of queries that bind_anywhere, query and execute, and bind in the mode with backslash escapes, are given
+ * again and again. */
 #include "php_mysql_params.h"
 
 /* Queries of more bytes have none, so that what is kept stays small. */

@@ -147,8 +147,8 @@ bool write_params(writer *writer, HashTable *params);
 bool refuse_value(const writer *writer, zend_class_entry *kind, const char *format, ...)
     ZEND_ATTRIBUTE_FORMAT(printf, 3, 4);
 
-/* What is asked of the archive. */
-enum call { CALL_NAMES, CALL_BIND, CALL_ANYWHERE, CALL_BOTH_MODES };
+/* What is asked of the archive. CALL_CONNECTION is the text to send over a connection in a mode. */
+enum call { CALL_NAMES, CALL_BIND, CALL_ANYWHERE, CALL_BOTH_MODES, CALL_CONNECTION };
 
 typedef struct question {
     enum call call;
@@ -164,6 +164,9 @@ typedef struct question {
 /* The whole answer to a question; null with an exception thrown. */
 zend_string *answer(const question *question);
 
+/* The same, by the kept template of the query if it has one. */
+zend_string *answer_again(question *question);
+
 /* Throws what a number of the archive that isn't done says. `row` is the row of many, or -1. */
 void refuse(const question *question, int32_t number, const mysql_params_report *report, zend_long row);
 
@@ -172,9 +175,6 @@ void keep_texts(zend_object *refusal, zval *texts);
 
 /* Ends the request as PHP does where it has no memory. */
 ZEND_NORETURN void refuse_memory(void);
-
-/* Throws the refusal of a query that has a construct in a mode. Returns whether it has one. */
-bool refuse_unportable(bytes query, bool mode);
 
 /* What a refusal says. `name` is that of the place whose value is refused, or null; `has_word` says whether a word of the query has
  * letters that names don't have. */
@@ -230,7 +230,7 @@ PHP_FUNCTION(MysqlParams_ask_again);
 /* Gives the templates back that are kept. */
 void kept_end(kept_query kept[KEPT_QUERIES]);
 
-/* The template that is kept of a query, for the mode with backslash escapes, or null. It is kept until the next call. */
+/* The template that is kept of a query, or null. It is made in the mode with backslash escapes, and kept until the next call. */
 const mysql_params_template *kept_template(zend_string *query);
 
 /* Frees what a connection answered, of MYSQL_PARAMS_G(told). */

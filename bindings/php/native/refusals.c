@@ -65,7 +65,7 @@ static void set_case(zend_object *refusal, const char *name, zend_class_entry *k
 static zend_string *name_of_place(const question *asked, size_t place)
 {
     const question of_names = {.call = CALL_NAMES, .query = asked->query, .form = {&nothing, 0},
-                               .mode = asked->call == CALL_BIND && asked->mode};
+                               .mode = (asked->call == CALL_BIND || asked->call == CALL_CONNECTION) && asked->mode};
     zend_string *found = answer(&of_names), *name = NULL;
     if (found == NULL)
         return NULL;
@@ -227,27 +227,6 @@ void refuse(const question *question, int32_t number, const mysql_params_report 
 /* The calls that find the first construct of a query. */
 typedef int32_t first_call(const uint8_t *, size_t, bool, mysql_params_report *);
 
-/* The number of a query's first construct; it ends the request if there is no memory. */
-static int32_t first_of(first_call *call, bytes query, bool mode, mysql_params_report *report)
-{
-    int32_t construct = call(query.at, query.len, mode, report);
-    if (construct == MYSQL_PARAMS_NO_MEMORY)
-        refuse_memory();
-    return construct;
-}
-
-bool refuse_unportable(bytes query, bool mode)
-{
-    mysql_params_report report = {0};
-    int32_t construct = first_of(mysql_params_first_unportable_wide, query, mode, &report);
-    if (construct == MYSQL_PARAMS_PORTABLE)
-        return false;
-    const question question = {.call = CALL_BIND, .query = query, .form = {&nothing, 0}, .mode = mode};
-    report.byte = (size_t)construct;
-    refuse(&question, MYSQL_PARAMS_UNPORTABLE, &report, -1);
-    return true;
-}
-
 /* Returns an Unportable, or null. */
 static void find(INTERNAL_FUNCTION_PARAMETERS, first_call *call)
 {
@@ -263,7 +242,9 @@ static void find(INTERNAL_FUNCTION_PARAMETERS, first_call *call)
     ZEND_PARSE_PARAMETERS_END();
     if (!take_mode(given, 2, &mode))
         RETURN_THROWS();
-    int32_t number = first_of(call, bytes_of(query), mode, &report);
+    int32_t number = call(bytes_of(query).at, ZSTR_LEN(query), mode, &report);
+    if (number == MYSQL_PARAMS_NO_MEMORY)
+        refuse_memory();
     if (number == MYSQL_PARAMS_PORTABLE)
         RETURN_NULL();
     if (zend_enum_get_case_by_value(&construct, construct_ce, number, NULL, false) != SUCCESS)

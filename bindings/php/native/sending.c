@@ -371,16 +371,15 @@ static bool told_by(const connection *connection, bool always_ask, told *told)
     return true;
 }
 
-/* The text to send over a connection, for a query that is portable in its mode. */
+/* The text to send over a connection, whose answer tells the mode and how long it may be. The query's template is looked for
+ * after that, since asking may run code of a user, for which another takes its place. */
 static zend_string *text_for(const connection *connection, question *question, bool always_ask)
 {
     told told;
     if (!told_by(connection, always_ask, &told))
         return NULL;
     question->mode = told.mode;
-    if (refuse_unportable(question->query, told.mode))
-        return NULL;
-    zend_string *text = answer(question);
+    zend_string *text = answer_again(question);
     if (text == NULL || ZSTR_LEN(text) <= told.most)
         return text;
     throw_session(new_refusal(REFUSED_PACKET,
@@ -397,6 +396,7 @@ typedef struct sending {
     zend_string *query;
     HashTable *params; /* or null */
     bool always_ask;
+    bool steady; /* whether the text is that of bind_anywhere */
 } sending;
 
 static bool take_sending(INTERNAL_FUNCTION_PARAMETERS, sending *sending)
@@ -404,13 +404,14 @@ static bool take_sending(INTERNAL_FUNCTION_PARAMETERS, sending *sending)
     zval *given;
     (void)return_value;
     sending->params = NULL;
-    sending->always_ask = false;
-    ZEND_PARSE_PARAMETERS_START_EX(ZEND_PARSE_PARAMS_THROW, 2, 4)
+    sending->always_ask = sending->steady = false;
+    ZEND_PARSE_PARAMETERS_START_EX(ZEND_PARSE_PARAMS_THROW, 2, 5)
         Z_PARAM_ZVAL(given)
         Z_PARAM_STR(sending->query)
         Z_PARAM_OPTIONAL
         Z_PARAM_ARRAY_HT(sending->params)
         Z_PARAM_BOOL(sending->always_ask)
+        Z_PARAM_BOOL(sending->steady)
     ZEND_PARSE_PARAMETERS_END_EX(return false);
     return take_connection(given, &sending->connection);
 }
@@ -423,8 +424,9 @@ static bool text_of(const sending *sending, zval *text)
     form_begin(&form);
     writer writer = {&form, LEVEL_PLACES, NULL, 0, -1};
     if (sending->params == NULL || write_params(&writer, sending->params)) {
-        question question = {.call = CALL_BIND, .query = bytes_of(sending->query), .form = {form.bytes, form.len},
-                             .values = form.values, .is_fragments = form.is_fragments};
+        question question = {.call = sending->steady ? CALL_ANYWHERE : CALL_CONNECTION, .query = bytes_of(sending->query),
+                             .again = sending->query, .form = {form.bytes, form.len}, .values = form.values,
+                             .is_fragments = form.is_fragments};
         made = text_for(&sending->connection, &question, sending->always_ask);
     }
     form_free(&form);

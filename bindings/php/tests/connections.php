@@ -83,11 +83,20 @@ class PlayedRow extends \PDOStatement
 }
 
 /** Sends a query over a played connection, and returns the text that it got. */
-function sent(Played $connection, string $query = 'SELECT :a', array $params = ['a' => '\\'], bool $alwaysAsk = false): string
+function sent(Played $connection, string $query = 'SELECT :a', array $params = ['a' => '\\'], bool $alwaysAsk = false, bool $steady = false): string
 {
-    query($connection, $query, $params, $alwaysAsk);
+    query($connection, $query, $params, $alwaysAsk, $steady);
     return end($connection->sent);
 }
+
+/** Returns a connection that is played, in a mode, to which a text of any length goes out. */
+function played(string $mode): Played
+{
+    $connection = new Played();
+    $connection->session = [$mode, 'utf8mb4', 'utf8mb4', '10000000'];
+    return $connection;
+}
+
 /** Returns a PDO of the server. */
 function pdo(array $attributes = [], string $charset = 'utf8mb4', string $kind = \PDO::class): \PDO
 {
@@ -117,15 +126,21 @@ class Counting extends \PDO
 }
 
 /** Returns the first cell of what a query gives. */
-function cell(\PDO|\mysqli $connection, string $query, array $params = []): mixed
+function cell(\PDO|\mysqli $connection, string $query, array $params = [], bool $steady = false): mixed
 {
-    $result = query($connection, $query, $params);
+    return row($connection, $query, $params, $steady)[0];
+}
+
+/** Returns the first row. */
+function row(\PDO|\mysqli $connection, string $query, array $params, bool $steady = false): array
+{
+    $result = query($connection, $query, $params, steady: $steady);
     if ($result instanceof \PDOStatement) {
         $row = $result->fetch(\PDO::FETCH_NUM);
         $result->closeCursor();
-        return $row[0];
+        return $row;
     }
-    return $result->fetch_row()[0];
+    return $result->fetch_row();
 }
 
 /** Sends a text of the test's own. */

@@ -11,7 +11,7 @@ use MysqlParams\{Assignments, BindException, Decimal, Identifier, In, Keyword, T
 
 use function MysqlParams\{bind, bind_anywhere, bind_form, bind_in_both_modes, bind_rows, first_unportable, first_unportable_in_client, names};
 
-require __DIR__ . '/harness.php';
+require __DIR__ . '/connections.php';
 
 enum Color: string
 {
@@ -45,6 +45,14 @@ function calls(): array
         'new template' => fn () => new Template('SELECT :a, ?'),
         'names' => fn () => names('SELECT :a, :userId'),
         'constructs' => fn () => [first_unportable('SELECT /*! :A */'), first_unportable('SELECT 1'), first_unportable_in_client("use x")],
+        'guarded text' => fn () => sent(played(''), 'SELECT ?, ?', [$long, "\u{e9}\\"]),
+        'guarded text without escapes' => fn () => sent(played('NO_BACKSLASH_ESCAPES'), 'SELECT :a', ['a' => "it's\\"]),
+        'guarded list' => fn () => sent(played(''), 'SELECT ? IN (?)', [0.5, [$long, '\\']]),
+        'plain text that is sent' => fn () => sent(played(''), 'SELECT ?, ?', [new Identifier("\u{e9}"), $long]),
+        'steady text that is sent' => fn () => sent(played(''), 'SELECT ?', [$long], steady: true),
+        'text that is too long' => fn () => sent(new Played(), 'SELECT ?', [$long]),
+        'unportable text' => fn () => sent(played(''), 'SELECT /*! ? */', [$long]),
+        'unsteady text' => fn () => sent(played(''), 'SELECT ?', [new Identifier("\u{e9}")], steady: true),
         'missing' => fn () => bind("SELECT :a\u{e9}", ['b' => 1]),
         'mixed' => fn () => names('SELECT :a, ?'),
         'repeated' => fn () => bind('SELECT :a', ['a' => 1, ':a' => $long]),

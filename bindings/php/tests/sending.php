@@ -9,7 +9,7 @@ namespace MysqlParams\Tests;
 
 use MysqlParams\{Assignments, BindException, Construct, Decimal, Identifier, In, Keyword};
 
-use function MysqlParams\{ask_again, execute, query};
+use function MysqlParams\{ask_again, bind, bind_anywhere, execute, query};
 
 require __DIR__ . '/connections.php';
 
@@ -18,12 +18,205 @@ const HOSTILE = [
     "\0", "\0?", "a\nb\r\x1a", "\u{e9}\u{1F600}", "\xFF?", "\xE9':x", "\xBF'", '%s %', "'; DROP TABLE t; -- ", '', 'a;b', '{}', '$1',
 ];
 
-test('a query that is not portable is refused', function () {
+/** Modes of a played connection: with backslash escapes, and without. */
+const ESCAPES = 'STRICT_TRANS_TABLES';
+const BARE = 'STRICT_TRANS_TABLES,NO_BACKSLASH_ESCAPES';
+
+/** Values with their guarded literals with backslash escapes, and without if these are others. */
+function guarded(): array
+{
+    return [
+        ["it's", "'it''s'"],
+        ['', "''"],
+        ["\u{e9}", "'\u{e9}'"],
+        ["\0\n\r\x1a\"`", "'\0\n\r\x1a\"`'"],
+        ['\\', "'\\\\'", '_utf8mb4 0x5C'],
+        ["\\'", "'\\\\'''", '_utf8mb4 0x5C27'],
+        ["a\n\\", "'a\n\\\\'", '_utf8mb4 0x610A5C'],
+        ["\u{e9}\\", "'\u{e9}' '\\\\'", '_utf8mb4 0xC3A95C'],
+        ["\u{e9}\\'\\\\", "'\u{e9}' '\\\\''\\\\\\\\'", '_utf8mb4 0xC3A95C275C5C'],
+        ["\u{8aa0}' OR 1=1 -- ", "'\u{8aa0}'' OR 1=1 -- '"],
+        ["\xFF\\'", '0xFF5C27'],
+        [null, 'NULL'],
+        [-7, '-7'],
+        [true, '1'],
+        [0.5, '0.5e0'],
+        [new Decimal('-1.50'), '-1.50'],
+        [new \DateTimeImmutable('2019-11-27'), "'2019-11-27'"],
+        [new \DateInterval('PT90M'), "'001:30:00'"],
+        [new In(["it's", '\\']), "'it''s', '\\\\'", "'it''s', _utf8mb4 0x5C"],
+        [new Assignments(['a' => "\\'"]), "`a` = '\\\\'''", '`a` = _utf8mb4 0x5C27'],
+        [new Identifier('a`', "it's"), "`a```.`it's`"],
+    ];
+}
+
+test('the text is guarded, in each mode', function () {
+    foreach (guarded() as $number => $case) {
+        [$value, $escaped, $bare] = $case + [2 => null];
+        foreach ([ESCAPES => $escaped, BARE => $bare ?? $escaped] as $mode => $literal) {
+            $connection = played($mode);
+            // The third of these queries differs each time, so that none is kept of it.
+            same("SELECT $literal", sent($connection, 'SELECT :a', ['a' => $value]), "$mode $number");
+            same("SELECT $literal", sent($connection, 'SELECT ?', [$value]), "$mode $number");
+            same("SELECT $literal, $number, '$mode'", sent($connection, "SELECT :a, $number, '$mode'", ['a' => $value]), "$mode $number");
+            execute($connection, 'UPDATE t SET a = ?, b = ?', ["it's", $value]);
+            same("UPDATE t SET a = 'it''s', b = $literal", end($connection->sent), "$mode $number");
+        }
+    }
+    same("SELECT 1 IN ('it''s', 2)", sent(new Played(), 'SELECT 1 IN (:a)', ['a' => ["it's", 2]]));
+    same("VALUES ('it''s', 1), (NULL, 0.5e0)", sent(new Played(), 'VALUES ?', [[["it's", 1], [null, 0.5]]]));
+});
+
+/** A connection that binds other queries before it answers, of each so often that it takes the place of one that was kept. */
+class Busy extends Played
+{
+    public function query(string $query, ?int $fetchMode = null, mixed ...$fetchModeArgs): \PDOStatement|false
+    {
+        for ($i = 0; $i < 3000 && str_contains($query, '@@sql_mode'); $i++) {
+            bind('SELECT ? AS a' . md5((string) intdiv($i, 3)), [1]);
+        }
+        return parent::query($query);
+    }
+}
+
+test('a query that was kept, and is no more once the connection was asked', function () {
+    foreach ([false, true] as $steady) {
+        $literal = $steady ? "_utf8mb4'it''s'" : "'it''s'";
+        for ($i = 0; $i < 4; $i++) {
+            same("SELECT $literal, $literal", sent(new Played(), 'SELECT ?, ?', ["it's", "it's"], steady: $steady));
+        }
+        same("SELECT $literal, $literal", sent(new Busy(), 'SELECT ?, ?', ["it's", "it's"], steady: $steady));
+    }
+});
+
+test('guarded texts of long queries, and of long values', function () {
+    $columns = str_repeat('a, ', 2000);
+    foreach ([ESCAPES => "'\\\\'", BARE => '_utf8mb4 0x5C'] as $mode => $literal) {
+        $connection = played($mode);
+        for ($i = 0; $i < 5; $i++) {
+            same("SELECT $columns'it''s', $literal", sent($connection, "SELECT $columns:a, :b", ['a' => "it's", 'b' => '\\']));
+            foreach ([8000, 50000] as $times) {
+                holds("SELECT '" . str_repeat("it''s", $times) . "', 1" === sent($connection, 'SELECT ?, 1', [str_repeat("it's", $times)]));
+            }
+        }
+    }
+    // Such a literal has more than twice the bytes of its value, for which room is made at first.
+    foreach ([10000, 40000] as $times) {
+        $given = ['a' => str_repeat("\u{e9}\\", $times)];
+        holds("SELECT '" . str_repeat("\u{e9}' '\\\\", $times) . "'" === sent(played(ESCAPES), 'SELECT :a', $given));
+        holds('SELECT _utf8mb4 0x' . str_repeat('C3A95C', $times) === sent(played(BARE), 'SELECT :a', $given));
+    }
+});
+
+test('of a query or a name that is not ASCII without a backslash the text is plain', function () {
+    $name = new Identifier("\u{e9}");
+    $long = str_repeat('a, ', 2000);
+    foreach ([
+        ["SELECT :a /* \u{e9} */", [], "SELECT {} /* \u{e9} */"],
+        ["SELECT :a, '\\\\'", [], "SELECT {}, '\\\\'"],
+        ['SELECT :n = :a', ['n' => $name], "SELECT `\u{e9}` = {}"],
+        ['SELECT :n = :a', ['n' => new Identifier('a\b', 'c')], 'SELECT `a\b`.`c` = {}'],
+        ['SELECT :a IN (:n)', ['n' => [$name, new Identifier('b')]], "SELECT {} IN (`\u{e9}`, `b`)"],
+        ['SET :n, b = :a', ['n' => new Assignments([[$name, 'x']])], "SET `\u{e9}` = 'x', b = {}"],
+        ["SELECT $long:a, :n", ['n' => $name], "SELECT $long{}, `\u{e9}`"],
+        ["SELECT $long:a, \u{e9}", [], "SELECT $long{}, \u{e9}"],
+    ] as [$query, $params, $wanted]) {
+        foreach ([ESCAPES => "'it\\'s\\\\\u{e9}'", BARE => "'it''s\\\u{e9}'"] as $mode => $literal) {
+            $connection = played($mode);
+            for ($i = 0; $i < 5; $i++) {
+                $sent = sent($connection, $query, ['a' => "it's\\\u{e9}"] + $params);
+                same(str_replace('{}', $literal, $wanted), $sent, substr($query, 0, 20) . $mode);
+            }
+        }
+    }
+    foreach ([ESCAPES => "it\\'s", BARE => "it''s"] as $mode => $written) {
+        $sent = sent(played($mode), 'SELECT :n, :a', ['n' => $name, 'a' => str_repeat("it's", 32000)]);
+        holds("SELECT `\u{e9}`, '" . str_repeat($written, 32000) . "'" === $sent);
+    }
+});
+
+test('a steady text is that of bind_anywhere, in each mode', function () {
+    $values = ["it's", '\\', "\u{e9}", "\xFF", "\n", null, 1, new \DateTimeImmutable('2019-11-27')];
+    $steady = "SELECT _utf8mb4'it''s', _utf8mb4 0x5C, _utf8mb4 0xC3A9, 0xFF, _utf8mb4 0x0A, NULL, 1, '2019-11-27'";
+    foreach ([ESCAPES, BARE] as $mode) {
+        $connection = played($mode);
+        for ($i = 0; $i < 5; $i++) {
+            same($steady, sent($connection, 'SELECT ?, ?, ?, ?, ?, ?, ?, ?', $values, steady: true));
+            same("$steady, `n`", sent($connection, 'SELECT ?, ?', [new In($values), new Identifier('n')], steady: true));
+            execute($connection, 'DO ?', ["it's"], steady: true);
+            same("DO _utf8mb4'it''s'", end($connection->sent));
+            same("DO 'it''s'", sent($connection, 'DO ?', ["it's"], steady: false));
+        }
+    }
+});
+
+test('what a steady text is refused for', function () {
+    foreach ([
+        [BindException::UNSTEADY, "SELECT '\u{e9}', :a", ['a' => 1]],
+        [BindException::UNSTEADY, "SELECT '\\\\', :a", ['a' => 1]],
+        [BindException::UNSTEADY, "SELECT '\u{e9}', /*! :a */ 1", ['a' => 1]],
+        [BindException::UNPORTABLE, 'SELECT /*! :a */ 1', ['a' => 1]],
+        [BindException::UNSTEADY_FRAGMENT, 'SELECT :n', ['n' => new Identifier("\u{e9}")]],
+        [BindException::UNBRACKETED, 'SELECT :n', ['n' => [1, 2]]],
+        [BindException::MISSING, 'SELECT :n', []],
+        [BindException::FLOAT, 'SELECT :n', ['n' => NAN]],
+    ] as [$code, $query, $params]) {
+        foreach ([ESCAPES, BARE] as $mode) {
+            $connection = played($mode);
+            $own = thrown(fn () => bind_anywhere($query, $params));
+            same($code, $own->getCode(), $query);
+            for ($i = 0; $i < 4; $i++) {
+                foreach ([query(...), execute(...)] as $send) {
+                    $refusal = refused(BindException::class, $own->getMessage(), fn () => $send($connection, $query, $params, steady: true));
+                    same([$code, fields($own)], [$refusal->getCode(), fields($refusal)], $query);
+                }
+            }
+            same([], $connection->sent);
+        }
+    }
+    // The connection is asked all the same.
     $connection = new Played();
-    $refusal = thrown(fn () => sent($connection, 'SELECT /*! :a */ 1'));
-    same([BindException::UNPORTABLE, ['construct' => Construct::ExecutableComment, 'position' => 7]], [$refusal->getCode(), fields($refusal)]);
-    holds(str_starts_with($refusal->getMessage(), 'Not portable at byte 7 of the query: `/*!` is executed'));
-    same([], $connection->sent);
+    same(BindException::PACKET, thrown(fn () => sent($connection, 'SELECT ?', [str_repeat('x', 988)], steady: true))->getCode());
+    $connection->session[1] = 'gbk';
+    same(BindException::SESSION, thrown(fn () => sent($connection, steady: true))->getCode());
+    same([2, []], [$connection->asked, $connection->sent]);
+});
+
+test('steady is a bool', function () {
+    $connection = new Played();
+    foreach (['query' => query(...), 'execute' => execute(...)] as $name => $send) {
+        foreach (['array' => [], 'stdClass' => new \stdClass()] as $type => $given) {
+            $message = "MysqlParams\\$name(): Argument #5 (\$steady) must be of type bool, $type given";
+            refused(\TypeError::class, $message, fn () => $send($connection, 'SELECT 1', steady: $given));
+        }
+    }
+    same([0, []], [$connection->asked, $connection->sent]);
+});
+
+test('a refusal names the place as the mode of the connection reads the query', function () {
+    $given = ['a' => 1, 'b' => NAN];
+    $refusal = thrown(fn () => sent(played(BARE), "SELECT '\\', :a, :b", $given));
+    same([BindException::FLOAT, ['name' => 'b', 'place' => 1]], [$refusal->getCode(), fields($refusal)]);
+    $refusal = thrown(fn () => sent(played(ESCAPES), "SELECT '\\', :a, ', :b", $given));
+    same([BindException::FLOAT, ['name' => 'b', 'place' => 0]], [$refusal->getCode(), fields($refusal)]);
+});
+
+test('a query that is not portable is refused', function () {
+    foreach (["SELECT /*! :a */ 1" => 7, "SELECT '\u{e9}', /*! :a */ 1" => 13] as $query => $position) {
+        foreach ([ESCAPES, BARE] as $mode) {
+            $connection = played($mode);
+            for ($i = 0; $i < 4; $i++) {
+                foreach ([['a' => 1], ['b' => 0.5], []] as $params) {
+                    $refusal = thrown(fn () => sent($connection, $query, $params));
+                    same([BindException::class, BindException::UNPORTABLE], [get_class($refusal), $refusal->getCode()]);
+                    same(['construct' => Construct::ExecutableComment, 'position' => $position], fields($refusal));
+                    holds(str_starts_with($refusal->getMessage(), "Not portable at byte $position of the query: `/*!` is executed"));
+                }
+            }
+            same([], $connection->sent);
+        }
+    }
+    $connection = new Played();
     // Which query is depends on the mode.
     $query = "SELECT 'a\\', [1], '";
     same($query, sent($connection, $query, []));
@@ -109,8 +302,19 @@ test('hostile values on a server, in each mode by each driver', function () {
                 $of = "$driver, $mode, " . bin2hex($value);
                 same(strtoupper(bin2hex($value)), cell($connection, 'SELECT HEX(:a)', ['a' => $value]), $of);
                 same(strtoupper(bin2hex($value)), cell($connection, 'SELECT HEX(?)', [$value]), $of);
+                same(strtoupper(bin2hex($value)), cell($connection, 'SELECT HEX(?)', [$value], true), $of);
+                same(strtoupper(bin2hex($value)), cell($connection, "SELECT HEX(?), '\u{e9}'", [$value]), $of);
             }
         }
+    }
+});
+
+test('where a server wants a plain text a guarded one stands, and no steady one', function () {
+    $query = "SELECT GROUP_CONCAT(a SEPARATOR ?) FROM (SELECT 'x' AS a UNION ALL SELECT 'x') AS t";
+    foreach (connections() as $driver => $connection) {
+        same("xit's\u{e9}x", cell($connection, $query, ["it's\u{e9}"]), $driver);
+        $fault = thrown(fn () => cell($connection, $query, ["it's\u{e9}"], true));
+        holds($fault instanceof \PDOException || $fault instanceof \mysqli_sql_exception, $driver);
     }
 });
 

@@ -16,7 +16,7 @@ test('a connection whose driver has no idea of the mode is asked each time', fun
     $connection = new Played();
     same("SELECT '\\\\'", sent($connection));
     $connection->session[0] = 'ANSI_QUOTES,no_backslash_escapes';
-    same("SELECT '\\'", sent($connection));
+    same('SELECT _utf8mb4 0x5C', sent($connection));
     $connection->session[0] = 'NOT_NO_BACKSLASH_ESCAPES,NO_BACKSLASH_ESCAPE';
     same("SELECT '\\\\'", sent($connection));
     same(3, $connection->asked);
@@ -86,8 +86,8 @@ test('another mode is seen', function () {
     $connection = new PlayedOver();
     same("SELECT '\\\\'", sent($connection));
     $connection->change('NO_BACKSLASH_ESCAPES', 'ANSI_QUOTES,no_backslash_escapes');
-    same("SELECT '\\'", sent($connection));
-    same("SELECT '\\'", sent($connection));
+    same('SELECT _utf8mb4 0x5C', sent($connection));
+    same('SELECT _utf8mb4 0x5C', sent($connection));
     same(2, $connection->asked);
     $connection->change('', 'NOT_NO_BACKSLASH_ESCAPES,NO_BACKSLASH_ESCAPE');
     same("SELECT '\\\\'", sent($connection));
@@ -97,7 +97,7 @@ test('another mode is seen', function () {
 test('a driver with another idea of the mode is asked each time', function () {
     $connection = new PlayedOver();
     $connection->session[0] = 'NO_BACKSLASH_ESCAPES';
-    same(["SELECT '\\'", "SELECT '\\'"], [sent($connection), sent($connection)]);
+    same(['SELECT _utf8mb4 0x5C', 'SELECT _utf8mb4 0x5C'], [sent($connection), sent($connection)]);
     same(2, $connection->asked);
     $connection->change('NO_BACKSLASH_ESCAPES', 'NO_BACKSLASH_ESCAPES');
     sent($connection);
@@ -338,6 +338,78 @@ test('a text that is sent while another is sent is seen', function () {
     same(1, $connection->asked);
     same(BindException::SESSION, thrown(fn () => query($connection, 'SET NAMES gbk'))->getCode());
     same(BindException::SESSION, thrown(fn () => query($connection, 'SELECT 1'))->getCode());
+});
+
+/** Values that leave a plain literal of another mode or character set than was told. */
+const LEAVING = [
+    "\\' OR 1=1 -- ", "\\' , 8 -- ", "' , 8 -- ", '\\', "\\\\' , 8 -- ", "\u{e9}\\' , 8 -- ", "\u{8aa0}' , 8 -- ", "\u{8aa0}\\",
+    "\u{20ac}' , 8 -- ", "\u{8868}\\' , 8 -- ", "\xBF' , 8 -- ", "\\\\' '\\\\\\' , 8 -- ",
+];
+
+/** Has a connection be in a mode, while its driver and the answer that is kept tell another: MariaDB tells a statement's own mode. */
+function set_unseen(\PDO|\mysqli $connection, string $mode, string $believed): void
+{
+    plain($connection, "SET sql_mode = '$believed'");
+    same('1', (string) cell($connection, 'SELECT 1'));
+    plain($connection, "SET sql_mode = '$mode'");
+    plain($connection, "SET STATEMENT sql_mode = '$believed' FOR DO 1");
+}
+
+test('no value runs in another mode than that of the answer that is kept', function () {
+    foreach ([pdo(kind: Counting::class), mysqli()] as $connection) {
+        foreach (['' => 'NO_BACKSLASH_ESCAPES', 'NO_BACKSLASH_ESCAPES' => ''] as $believed => $mode) {
+            foreach (LEAVING as $value) {
+                $of = get_class($connection) . ": $mode: " . bin2hex($value);
+                set_unseen($connection, $mode, $believed);
+                $asked = $connection->asked ?? 0;
+                [$first, $kept, $last] = row($connection, 'SELECT :a, 7, :a', ['a' => $value]);
+                same(['7', $first, $asked], [(string) $kept, $last, $connection->asked ?? 0], $of);
+                holds(in_array($first, [$value, str_replace('\\', '\\\\', $value)], true), $of);
+                set_unseen($connection, $mode, $believed);
+                same([$value, '7'], array_map(strval(...), row($connection, 'SELECT :a, 7', ['a' => $value], true)), $of);
+            }
+            // The text of a query that isn't ASCII is plain, and the value runs.
+            set_unseen($connection, $mode, $believed);
+            same('8', (string) row($connection, "SELECT :a, 7 /* \u{e9} */", ['a' => "\\' , 8 -- "])[1]);
+        }
+    }
+});
+
+test('no value runs in a mode that the text itself sets', function () {
+    $connection = pdo();
+    foreach (['', 'NO_BACKSLASH_ESCAPES', ''] as $mode) {
+        foreach (['', 'NO_BACKSLASH_ESCAPES'] as $other) {
+            foreach (LEAVING as $value) {
+                plain($connection, "SET sql_mode = '$mode'");
+                $result = query($connection, "SET sql_mode = '$other'; SELECT :a, 7", ['a' => $value]);
+                holds($result->nextRowset());
+                [$found, $kept] = $result->fetch(\PDO::FETCH_NUM);
+                same('7', (string) $kept, $mode . bin2hex($value));
+                holds(in_array($found, [$value, str_replace('\\', '\\\\', $value)], true), $mode . bin2hex($value));
+                $result->closeCursor();
+            }
+        }
+    }
+});
+
+test('no value runs over a character set that the driver does not tell of', function () {
+    foreach ([pdo(), mysqli()] as $connection) {
+        foreach (['', 'NO_BACKSLASH_ESCAPES'] as $mode) {
+            foreach (['gbk', 'big5', 'cp932', 'sjis', 'latin1'] as $charset) {
+                plain($connection, "SET NAMES utf8mb4, sql_mode = '$mode'");
+                ask_again($connection);
+                same("\\'", cell($connection, 'SELECT ?', ["\\'"]));
+                plain($connection, "SET NAMES $charset");
+                foreach (LEAVING as $value) {
+                    $row = row($connection, 'SELECT :a, 7, :a', ['a' => $value]);
+                    same([3, '7'], [count($row), (string) $row[1]], "$mode $charset " . bin2hex($value));
+                }
+            }
+            // The text of a query that isn't ASCII is plain, and by its backslash the value runs.
+            plain($connection, 'SET NAMES gbk');
+            same($mode === '' ? '8' : '7', (string) row($connection, "SELECT :a, 7 /* \u{e9} */", ['a' => "\u{20ac}' , 8 -- "])[1]);
+        }
+    }
 });
 
 test('a character set of the driver that is not that of the server changes no byte', function () {

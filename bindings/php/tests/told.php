@@ -11,7 +11,7 @@ use MysqlParams\Template;
 
 use function MysqlParams\{bind, bind_anywhere, bind_in_both_modes, bind_rows, first_unportable, names};
 
-require __DIR__ . '/harness.php';
+require __DIR__ . '/connections.php';
 
 test('memory that is refused is an error of PHP', function () {
     $calls = ["MysqlParams\\bind('1')", "MysqlParams\\bind_anywhere('1', [1])", "MysqlParams\\bind_in_both_modes('1')", "MysqlParams\\names('1')",
@@ -25,7 +25,9 @@ test('memory that is refused is an error of PHP', function () {
 
 test('numbers that no archive returns', function () {
     foreach ([99, -5, 20, 22] as $number) {
-        foreach ([bind(...), bind_anywhere(...), bind_in_both_modes(...), names(...)] as $call) {
+        $send = fn (string $query) => sent(new Played(), $query, []);
+        $send_steady = fn (string $query) => sent(new Played(), $query, [], steady: true);
+        foreach ([bind(...), bind_anywhere(...), bind_in_both_modes(...), names(...), $send, $send_steady] as $call) {
             refused(\Error::class, "Unknown answer $number of the archive", fn () => $call((string) $number));
         }
     }
@@ -44,6 +46,8 @@ test('rooms that are asked for', function () {
         same(str_repeat('x', $length), bind("2 $length"));
         same(str_repeat('x', $length), bind("2 $length", [str_repeat('y', 70000)]));
         same(str_repeat('x', $length), (new Template("2 $length"))->bind());
+        same(str_repeat('x', $length), sent(played(''), "2 $length", []));
+        same(str_repeat('x', $length), sent(played(''), "2 $length", [], steady: true));
     }
 });
 

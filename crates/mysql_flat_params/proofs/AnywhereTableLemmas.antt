@@ -14,9 +14,7 @@ use Rattle.mysql_steady_text.proofs.BothModesAnswerLemmas.{Agree}
 use Rattle.mysql_flat_params.specs.AnywhereTable.{IsAnywhereTableOutcome, IsMadeAnywhereTable, IsRefusedAnywhere, IsTakenAnywhere}
 use Rattle.mysql_flat_params.specs.Outcomes as outcomes
 use Rattle.mysql_flat_params.specs.PlaceTable.{IsMadeTableIn, IsTableOutcomeIn}
-use Rattle.mysql_flat_params.specs.Steadiness.{IsBoundAs, refusal_as}
 use Rattle.mysql_flat_params.specs.WideSteadyIntoRoom.{wide_anywhere_refusal}
-use Rattle.mysql_flat_params.specs.declared.steady_room.Steadiness.TheVariants.{Anywhere}
 use Rattle.mysql_flat_params.specs.declared.outcome.Outcome.{Outcome}
 use Rattle.mysql_flat_params.specs.declared.outcome.Outcome.TheVariants as variant
 use Rattle.mysql_binding.specs.declared.binding.spans.PlaceSpan.{PlaceSpan}

@@ -1,8 +1,7 @@
 -- The first cause that refuses a form's fragments, from the first cause of fragments and the first
 -- place that may not have its list or rows.
 use Rattle.std.specs.Prelude.{IfSome, Option, Some, None, option_map, true}
-use Rattle.std.proofs.Common.{◌≡◌, ◌⊎◌, ◌+◌, inl, inr, ℕ, List, length, refl, sym, ap, ◌∙◌, subst}
-use Rattle.mysql_named_params.specs.Places.{names}
+use Rattle.std.proofs.Common.{◌≡◌, inl, inr, ℕ, List, refl, sym, ap, ◌∙◌, subst}
 use Rattle.mysql_named_params.specs.Reading.{OnTokensIn}
 use Rattle.mysql_named_params.specs.Tokens.{Token}
 use Rattle.mysql_named_params.specs.declared.places.Reading.{Reading}
@@ -16,7 +15,7 @@ use Rattle.mysql_fragments.specs.declared.fragment.Fragment.{Fragment}
 use Rattle.mysql_fragments.specs.declared.fragment_ref.FragmentRef.{FragmentRef}
 use Rattle.mysql_fragments.specs.declared.fragments_error.FragmentsError.{FragmentsError}
 use Rattle.mysql_fragments.proofs.CauseLemmas.{first_by}
-use Rattle.mysql_flat_params.specs.FormCauses.{FormCause, IsFormCauseOrMemory, first_form_cause, form_cause_of, of_fragments, unbracketed, unbracketed_place, with_brackets}
+use Rattle.mysql_flat_params.specs.FormCauses.{FormCause, IsFormCauseOrMemory, first_form_cause, form_cause_of, of_fragments, unbracketed_place, with_brackets}
 use Rattle.mysql_flat_params.specs.FormInPlace.{AreGivenTo, IsEarly, is_early}
 use Rattle.mysql_flat_params.specs.FormKinds.{FormKinds}
 use Rattle.mysql_flat_params.specs.declared.form_refusal.KeptError.{KeptError}

@@ -1,5 +1,5 @@
 -- What is known of a form's fragments, parameter by parameter.
-use Rattle.std.specs.Prelude.{Ok, Option, Some, None, replicate}
+use Rattle.std.specs.Prelude.{Ok, Option, Some, replicate}
 use Rattle.std.specs.Borrow.{Bor}
 use Rattle.std.specs.Map.{lookup, KeepsOthers}
 use Rattle.std.specs.Str.{bytes_eq}

@@ -1,5 +1,5 @@
 -- The first place that may not have its list or rows, on the tokens of a query.
-use Rattle.std.specs.Prelude.{Option, Some, None, option_map, true}
+use Rattle.std.specs.Prelude.{Option, None, true}
 use Rattle.std.proofs.Common.{◌≡◌, ℕ, zero, suc, List, [], ◌∷◌, map, get_or, length, refl, sym, ap, ◌∙◌, arith}
 use Rattle.mysql_named_params.specs.Places.{names}
 use Rattle.mysql_named_params.specs.Reading.{IsTokensIn, OnTokensIn}

@@ -2,6 +2,8 @@
 -- lower case.
 use Rattle.std.specs.Prelude.{Bool, not}
 use Rattle.std.specs.List.{list_all}
+use Rattle.std.proofs.lemmas.Bool.{and_from}
+use Rattle.std.proofs.lemmas.List.Folds.{list_all-append}
 use Rattle.std.proofs.Common.{◌≡◌, ◌∙◌, ℕ, true, List, [], ◌∷◌, None, Some, Ok, length, refl, sym, ap, subst}
 use Rattle.mysql_values.specs.declared.value.Value.{Value}
 use Rattle.mysql_named_params.specs.LoweredNames.{lower_names}
@@ -26,7 +28,6 @@ use Rattle.mysql_params_core.specs.Lookup.{lookup}
 use Rattle.mysql_binding.specs.FirstCause.{first_cause}
 use Rattle.mysql_binding.specs.LiteralForm.{LiteralFacts, Literals}
 use Rattle.mysql_binding.specs.Pieces.{pieces, joined_text}
-use Rattle.mysql_binding.specs.Replaced.{with_literal_tokens}
 use Rattle.mysql_binding.specs.StandsAlone.{first_not_alone}
 use Rattle.mysql_binding.specs.WrittenText.{IsGivenText}
 use Rattle.mysql_binding.proofs.BoundAgainLemmas.{pieces-with_marks, with_literal_tokens-with_marks}
@@ -40,7 +41,6 @@ use Rattle.mysql_steady_text.specs.ReadGuarded.{AreReadOver}
 use Rattle.mysql_steady_text.specs.SeenText.{IsIsolatedOver}
 use Rattle.mysql_steady_text.proofs.GuardedSpliceLemmas.{guarded_on, guarded_places, guarded_portable, guarded_read}
 use Rattle.mysql_steady_text.proofs.GuardedTextLemmas.{alone_in, is_guarded_text}
-use Rattle.mysql_steady_text.proofs.SteadySpliceLemmas.{all_both}
 use Rattle.mysql_steady_text.proofs.WideSteadyLemmas.{first_not_alone-lowered, lowered_steady, pieces-lowered, wide_other, with_literal_tokens-lowered}
 use Rattle.mysql_flat_params.specs.GuardedIntoRoom.{IsWideBoundGuarded, IsWideGuardedText}
 use Rattle.mysql_flat_params.specs.WideSteadyIntoRoom.{wide_anywhere_refusal}
@@ -108,21 +108,24 @@ from_marks written ts given values text l none t =
       contents_are = t.contents_are;
     }
 
-marked_steady : (ts : List Token) → list_all is_steady (text_of ts) ≡ true → list_all is_steady (text_of (with_marks ts)) ≡ true
-marked_steady [] h = refl
-marked_steady (Name name ∷ ts) h = marked_steady ts ((all_parts is_steady (bytes_of (Name name)) (text_of ts) h).1)
-marked_steady (Mark ∷ ts) h = marked_steady ts ((all_parts is_steady (bytes_of Mark) (text_of ts) h).1)
-marked_steady (t ∷ ts) h =
-    let p = all_parts is_steady (bytes_of t) (text_of ts) h in
-    all_both (bytes_of t) (text_of (with_marks ts)) p.0 (marked_steady ts p.1)
-
 own_steady : (reading : Reading) (query : List ℕ) (ts : List Token) → IsTokensIn reading query ts → IsSteady query → list_all is_steady (text_of ts) ≡ true
 own_steady reading query ts is steady = subst (λ (x : List ℕ). list_all is_steady x ≡ true) (sym (reading_text reading query ts is)) steady
+
+-- a test that `?` passes, and each byte of a query, is passed by each byte of the query with marks
+marked_all : (test : ℕ → Bool) → list_all test (bytes_of Mark) ≡ true → (ts : List Token) → list_all test (text_of ts) ≡ true → list_all test (text_of (with_marks ts)) ≡ true
+marked_all test q [] h = refl
+marked_all test q (Name name ∷ ts) h =
+    list_all-append test (bytes_of Mark) (text_of (with_marks ts)) ∙ and_from _ _ q (marked_all test q ts (all_parts test (bytes_of (Name name)) (text_of ts) h).1)
+marked_all test q (Mark ∷ ts) h =
+    list_all-append test (bytes_of Mark) (text_of (with_marks ts)) ∙ and_from _ _ q (marked_all test q ts (all_parts test (bytes_of Mark) (text_of ts) h).1)
+marked_all test q (t ∷ ts) h =
+    let p = all_parts test (bytes_of t) (text_of ts) h in
+    list_all-append test (bytes_of t) (text_of (with_marks ts)) ∙ and_from _ _ p.0 (marked_all test q ts p.1)
 
 guarded_text_in : (written : Bool) (reading : Reading) (query : List ℕ) (ts : List Token) (given : Given) (text : List ℕ) → IsTokensIn reading query ts →
     IsSteady query → IsGivenText (guarded_literal_of written) (IsGuardedFor written) ts given text → IsGuardedText written ts given text
 guarded_text_in written reading query ts given text is steady g =
-    let marked = marked_steady ts (own_steady reading query ts is steady) in
+    let marked = marked_all is_steady refl ts (own_steady reading query ts is steady) in
     let marks = marked_reading reading query ts is in
     from_marks written ts given g.values text g.looked_up g.no_cause
     (is_guarded_text written (text_of (with_marks ts)) (with_marks ts) (positional g.values) text

@@ -1,6 +1,6 @@
 -- What a form says of its lists: two types of its own are for lists and rows that are such only
 -- because a value was one.
-use Rattle.std.specs.Prelude.{◌≡◌, ℕ, ◌+◌, ◌-◌, ◌==◌, List, [], ◌∷◌, get_or, length, map, if◌then◌else◌, Ok, Err}
+use Rattle.std.specs.Prelude.{ℕ, ◌+◌, ◌-◌, ◌==◌, List, [], ◌∷◌, get_or, length, map, if◌then◌else◌, Ok, Err}
 use Rattle.std.specs.Str.{bytes_eq}
 use Rattle.mysql_fragments.specs.Brackets.{Kinds}
 use Rattle.mysql_fragments.specs.GivenFragments.{GivenFragments, positional}

@@ -1,7 +1,7 @@
 -- The promises about an answer in a caller's room with guarded literals, for values, a query with
 -- wide names and the form. They are those of GuardedText.antt (of mysql_steady_text), and what
 -- servers read. The query with its names in lower case has to be portable.
-use Rattle.std.specs.Prelude.{ℕ, Bool, true, List}
+use Rattle.std.specs.Prelude.{ℕ, Bool, List}
 use Rattle.mysql_named_params.specs.LoweredNames.{lower_names}
 use Rattle.mysql_named_params.specs.Reading.{OnWideTokens}
 use Rattle.mysql_named_params.specs.Tokens.{Token, text_of}

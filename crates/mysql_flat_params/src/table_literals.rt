@@ -132,8 +132,10 @@ fn bind_places_with(
 ) -> Result<TextInRoom, BindError>
     ensures text { HasOwnSpans spanned.now (wide_reading true) →
         OnTokensIn (wide_reading true) spanned.now.query.now (λ ts. IfOk result (IsTextInRoom
-        (IsGivenText (literal_with literals) (IsKnownWith literals) ts (given_in_place params.entry))
-        (HasGivenLength (literal_with literals) ts (given_in_place params.entry)) room.old room.new)) }
+        (IsGivenText (literal_with literals) (IsKnownWith literals) ts
+        (given_in_place params.entry))
+        (HasGivenLength (literal_with literals) ts (given_in_place params.entry))
+        room.old room.new)) }
     ensures refused { HasOwnSpans spanned.now (wide_reading true) →
         OnTokensIn (wide_reading true) spanned.now.query.now (λ ts. IfErr result
         (IsCauseOrMemory (first_cause ts (given_in_place params.entry)))) }
@@ -167,8 +169,10 @@ fn bind_places<F: LiteralForm>(
 ) -> Result<TextInRoom, BindError>
     ensures text { HasOwnSpans spanned.now (wide_reading true) →
         OnTokensIn (wide_reading true) spanned.now.query.now (λ ts. IfOk result (IsTextInRoom
-        (IsGivenText (F.literal literals.now) (F.IsKnown literals.now) ts (given_in_place params.entry))
-        (HasGivenLength (F.literal literals.now) ts (given_in_place params.entry)) room.old room.new)) }
+        (IsGivenText (F.literal literals.now) (F.IsKnown literals.now) ts
+        (given_in_place params.entry))
+        (HasGivenLength (F.literal literals.now) ts (given_in_place params.entry))
+        room.old room.new)) }
     ensures refused { HasOwnSpans spanned.now (wide_reading true) →
         OnTokensIn (wide_reading true) spanned.now.query.now (λ ts. IfErr result
         (IsCauseOrMemory (first_cause ts (given_in_place params.entry)))) }

@@ -1,4 +1,4 @@
-use Rattle.std.proofs.Common.{[], ap, arith, inl, length, refl, subst, sym, ◌∙◌}
+use Rattle.std.proofs.Common.{[], ap, arith, inl, length, refl, subst, sym}
 use Rattle.std.specs.Prelude.{alloc_error}
 use Rattle.mysql_fragments.specs.GivenFragments.{positional}
 use Rattle.mysql_flat_params.specs.FragmentsFormErrors.{IsFormRefusal}
