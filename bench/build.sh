@@ -12,14 +12,8 @@ objcopy --set-section-alignment '.text*=64' "$ARCHIVE" "$OUT/libmysql_params_c.a
 compile() {
     rustc -O -C codegen-units=1 --edition 2024 "$@"
 }
-# An archive without templates is measured without them.
-TEMPLATES=
-if nm "$OUT/libmysql_params_c.a" 2>/dev/null | grep -q ' T mysql_params_bind_template$'; then
-    TEMPLATES='--cfg templates'
-fi
 compile_bench() {
-    # shellcheck disable=SC2086 # no words, or two
-    compile $TEMPLATES --check-cfg 'cfg(upstream, templates)' --crate-name bench \
+    compile --check-cfg 'cfg(upstream)' --crate-name bench \
         -L "$OUT" -L "$HEAP" -l static=libc_c --extern plain="$OUT/libplain.rlib" \
         "$@" -o "$OUT/bench" "$BENCH/driver/main.rs"
 }

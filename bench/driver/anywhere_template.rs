@@ -33,6 +33,19 @@ unsafe extern "C" {
         room_len: usize,
         report: *mut Report,
     ) -> i32;
+    fn mysql_params_bind_template_guarded_wide(
+        query: *const u8,
+        query_len: usize,
+        head: *const AnywhereHead,
+        places: *const Place,
+        places_len: usize,
+        form: *const u8,
+        form_len: usize,
+        no_backslash_escape: bool,
+        room: *mut u8,
+        room_len: usize,
+        report: *mut Report,
+    ) -> i32;
 }
 
 /// A query and its table.
@@ -43,16 +56,16 @@ pub struct AnywhereTemplate<'q> {
 }
 
 impl<'q> AnywhereTemplate<'q> {
-    /// A template, unless the query isn't one for any server.
-    pub fn new(query: &'q [u8]) -> Option<AnywhereTemplate<'q>> {
+    /// A template, or the refusal of a query that isn't one for any server.
+    pub fn new(query: &'q [u8]) -> Result<AnywhereTemplate<'q>, (i32, Report)> {
         let mut template =
             AnywhereTemplate { query, head: AnywhereHead::default(), places: Vec::new() };
-        let (mut number, report) = template.make();
+        let (mut number, mut report) = template.make();
         if number == ROOM {
             template.places = vec![Place::default(); report.len];
-            number = template.make().0;
+            (number, report) = template.make();
         }
-        (number == DONE).then_some(template)
+        if number == DONE { Ok(template) } else { Err((number, report)) }
     }
 
     /// Makes the table, if it has room for the places.
@@ -72,6 +85,7 @@ impl<'q> AnywhereTemplate<'q> {
         })
     }
 
+    /// Binds with steady literals.
     pub fn bind(&self, form: &[u8], room: &mut [u8]) -> (i32, Report) {
         let (form_at, room_at) = (form.as_ptr(), room.as_mut_ptr());
         // SAFETY: the pointers and lengths are those of slices, and the room and the report are the
@@ -85,6 +99,32 @@ impl<'q> AnywhereTemplate<'q> {
                 self.places.len(),
                 form_at,
                 form.len(),
+                room_at,
+                room.len(),
+                report,
+            )
+        })
+    }
+
+    /// Binds with guarded literals, for a connection that is taken to be in this mode.
+    pub fn bind_guarded(
+        &self,
+        form: &[u8],
+        no_backslash_escape: bool,
+        room: &mut [u8],
+    ) -> (i32, Report) {
+        let (form_at, room_at) = (form.as_ptr(), room.as_mut_ptr());
+        // SAFETY: as above.
+        number_and_report(|report| unsafe {
+            mysql_params_bind_template_guarded_wide(
+                self.query.as_ptr(),
+                self.query.len(),
+                &self.head,
+                self.places.as_ptr(),
+                self.places.len(),
+                form_at,
+                form.len(),
+                no_backslash_escape,
                 room_at,
                 room.len(),
                 report,

@@ -3,45 +3,36 @@
 use plain::room::Report;
 use plain::rows::Rows;
 
-#[link(name = "mysql_params_c", kind = "static")]
-unsafe extern "C" {
-    fn mysql_params_names(
+/// Declares exports that take the same, and names the type of a pointer to one.
+macro_rules! exports {
+    ($(#[$comment:meta])* $alike:ident $arguments:tt: $($export:ident)*) => {
+        $(#[$comment])*
+        type $alike = unsafe extern "C" fn $arguments -> i32;
+        #[link(name = "mysql_params_c", kind = "static")]
+        unsafe extern "C" {
+            $(pub fn $export $arguments -> i32;)*
+        }
+    };
+}
+pub(crate) use exports;
+
+exports! {
+    /// A call of the archive that tells the names of a query.
+    NamesInMode(
         query: *const u8,
         query_len: usize,
         no_backslash_escape: bool,
         room: *mut u8,
         room_len: usize,
         report: *mut Report,
-    ) -> i32;
-    fn mysql_params_bind(
-        query: *const u8,
-        query_len: usize,
-        form: *const u8,
-        form_len: usize,
-        no_backslash_escape: bool,
-        room: *mut u8,
-        room_len: usize,
-        report: *mut Report,
-    ) -> i32;
-    fn mysql_params_bind_anywhere(
-        query: *const u8,
-        query_len: usize,
-        form: *const u8,
-        form_len: usize,
-        room: *mut u8,
-        room_len: usize,
-        report: *mut Report,
-    ) -> i32;
-    fn mysql_params_bind_in_both_modes(
-        query: *const u8,
-        query_len: usize,
-        form: *const u8,
-        form_len: usize,
-        room: *mut u8,
-        room_len: usize,
-        report: *mut Report,
-    ) -> i32;
-    fn mysql_params_bind_fragments(
+    ):
+    mysql_params_names
+    mysql_params_names_wide
+}
+
+exports! {
+    /// A call of the archive that binds in a mode.
+    InMode(
         query: *const u8,
         query_len: usize,
         form: *const u8,
@@ -50,8 +41,17 @@ unsafe extern "C" {
         room: *mut u8,
         room_len: usize,
         report: *mut Report,
-    ) -> i32;
-    fn mysql_params_bind_fragments_anywhere(
+    ):
+    mysql_params_bind
+    mysql_params_bind_wide
+    mysql_params_bind_fragments
+    mysql_params_bind_fragments_wide
+    mysql_params_bind_fragments_guarded_wide
+}
+
+exports! {
+    /// A call of the archive that binds for any server, or for both modes.
+    Anywhere(
         query: *const u8,
         query_len: usize,
         form: *const u8,
@@ -59,8 +59,18 @@ unsafe extern "C" {
         room: *mut u8,
         room_len: usize,
         report: *mut Report,
-    ) -> i32;
-    fn mysql_params_bind_rows(
+    ):
+    mysql_params_bind_anywhere
+    mysql_params_bind_anywhere_wide
+    mysql_params_bind_in_both_modes
+    mysql_params_bind_in_both_modes_wide
+    mysql_params_bind_fragments_anywhere
+    mysql_params_bind_fragments_anywhere_wide
+}
+
+exports! {
+    /// A call of the archive that binds rows, whose forms are length-encoded strings.
+    RowsInMode(
         query: *const u8,
         query_len: usize,
         forms: *const u8,
@@ -70,19 +80,23 @@ unsafe extern "C" {
         room_len: usize,
         rows: *mut Rows,
         report: *mut Report,
-    ) -> i32;
-    fn mysql_params_first_unportable(
+    ):
+    mysql_params_bind_rows
+    mysql_params_bind_rows_wide
+}
+
+exports! {
+    /// A call of the archive that judges a query in a mode.
+    JudgeInMode(
         query: *const u8,
         query_len: usize,
         no_backslash_escape: bool,
         report: *mut Report,
-    ) -> i32;
-    fn mysql_params_first_unportable_in_client(
-        query: *const u8,
-        query_len: usize,
-        no_backslash_escape: bool,
-        report: *mut Report,
-    ) -> i32;
+    ):
+    mysql_params_first_unportable
+    mysql_params_first_unportable_wide
+    mysql_params_first_unportable_in_client
+    mysql_params_first_unportable_in_client_wide
 }
 
 /// A report that no call gives: the archive has to write each field.
@@ -103,10 +117,10 @@ pub fn number_and_report(call: impl FnOnce(*mut Report) -> i32) -> (i32, Report)
     (number, report)
 }
 
-// SAFETY, of each call below: pointers and lengths are those of slices, and the report is the archive's to write.
+// The timed calls, by names without capitals in the mode with backslash escapes.
 
 pub fn names(query: &[u8], room: &mut [u8]) -> (i32, Report) {
-    names_in(query, false, room)
+    names_in_mode(mysql_params_names, query, false, room)
 }
 
 pub fn bind(query: &[u8], form: &[u8], room: &mut [u8]) -> (i32, Report) {
@@ -118,59 +132,30 @@ pub fn bind_fragments(query: &[u8], form: &[u8], room: &mut [u8]) -> (i32, Repor
     in_mode(mysql_params_bind_fragments, query, form, false, room)
 }
 
-/// The same in the mode without backslash escapes.
-pub fn bind_fragments_without_backslashes(
-    query: &[u8],
-    form: &[u8],
-    room: &mut [u8],
-) -> (i32, Report) {
-    in_mode(mysql_params_bind_fragments, query, form, true, room)
-}
-
-/// The same for any mode and any server.
-pub fn bind_fragments_anywhere(query: &[u8], form: &[u8], room: &mut [u8]) -> (i32, Report) {
-    anywhere(mysql_params_bind_fragments_anywhere, query, form, room)
-}
-
 /// `bind` for any mode and any server.
 pub fn bind_anywhere(query: &[u8], form: &[u8], room: &mut [u8]) -> (i32, Report) {
     anywhere(mysql_params_bind_anywhere, query, form, room)
 }
 
-/// `bind` for both modes.
-pub fn bind_in_both_modes(query: &[u8], form: &[u8], room: &mut [u8]) -> (i32, Report) {
-    anywhere(mysql_params_bind_in_both_modes, query, form, room)
+/// Rows, whose forms are length-encoded strings.
+pub fn bind_rows(query: &[u8], forms: &[u8], room: &mut [u8]) -> (i32, Rows, Report) {
+    rows_in_mode(mysql_params_bind_rows, query, forms, false, room)
 }
 
-/// `names` in the mode without backslash escapes.
-pub fn names_without_backslashes(query: &[u8], room: &mut [u8]) -> (i32, Report) {
-    names_in(query, true, room)
-}
-
-/// `bind` in the mode without backslash escapes.
-pub fn bind_without_backslashes(query: &[u8], form: &[u8], room: &mut [u8]) -> (i32, Report) {
-    in_mode(mysql_params_bind, query, form, true, room)
-}
+// SAFETY, of each call below: pointers and lengths are those of slices, and the report is the archive's to write.
 
 #[inline(always)]
-fn names_in(query: &[u8], no_backslash_escape: bool, room: &mut [u8]) -> (i32, Report) {
+pub fn names_in_mode(
+    call: NamesInMode,
+    query: &[u8],
+    no_backslash_escape: bool,
+    room: &mut [u8],
+) -> (i32, Report) {
     let (query_at, room_at) = (query.as_ptr(), room.as_mut_ptr());
     number_and_report(|report| unsafe {
-        mysql_params_names(query_at, query.len(), no_backslash_escape, room_at, room.len(), report)
+        call(query_at, query.len(), no_backslash_escape, room_at, room.len(), report)
     })
 }
-
-/// A call of the archive that binds in a mode.
-type InMode = unsafe extern "C" fn(
-    *const u8,
-    usize,
-    *const u8,
-    usize,
-    bool,
-    *mut u8,
-    usize,
-    *mut Report,
-) -> i32;
 
 #[inline(always)]
 pub fn in_mode(
@@ -187,10 +172,6 @@ pub fn in_mode(
     })
 }
 
-/// A call of the archive that binds for any server.
-type Anywhere =
-    unsafe extern "C" fn(*const u8, usize, *const u8, usize, *mut u8, usize, *mut Report) -> i32;
-
 #[inline(always)]
 pub fn anywhere(call: Anywhere, query: &[u8], form: &[u8], room: &mut [u8]) -> (i32, Report) {
     let (query_at, form_at, room_at) = (query.as_ptr(), form.as_ptr(), room.as_mut_ptr());
@@ -199,33 +180,6 @@ pub fn anywhere(call: Anywhere, query: &[u8], form: &[u8], room: &mut [u8]) -> (
         call(query_at, query_len, form_at, form_len, room_at, room_len, report)
     })
 }
-
-/// Rows, whose forms are length-encoded strings.
-pub fn bind_rows(query: &[u8], forms: &[u8], room: &mut [u8]) -> (i32, Rows, Report) {
-    rows_in_mode(mysql_params_bind_rows, query, forms, false, room)
-}
-
-/// The same in the mode without backslash escapes.
-pub fn bind_rows_without_backslashes(
-    query: &[u8],
-    forms: &[u8],
-    room: &mut [u8],
-) -> (i32, Rows, Report) {
-    rows_in_mode(mysql_params_bind_rows, query, forms, true, room)
-}
-
-/// A call of the archive that binds rows in a mode.
-type RowsInMode = unsafe extern "C" fn(
-    *const u8,
-    usize,
-    *const u8,
-    usize,
-    bool,
-    *mut u8,
-    usize,
-    *mut Rows,
-    *mut Report,
-) -> i32;
 
 #[inline(always)]
 pub fn rows_in_mode(
@@ -255,38 +209,9 @@ pub fn rows_in_mode(
     (number, rows, report)
 }
 
-/// The first construct for which the query isn't portable.
-pub fn first_unportable(query: &[u8], no_backslash_escape: bool) -> (i32, Report) {
-    judge_in_mode(mysql_params_first_unportable, query, no_backslash_escape)
-}
-
-/// The same, or what is found for a client.
-pub fn first_unportable_in_client(query: &[u8], no_backslash_escape: bool) -> (i32, Report) {
-    judge_in_mode(mysql_params_first_unportable_in_client, query, no_backslash_escape)
-}
-
-/// A call of the archive that judges a query in a mode.
-type JudgeInMode = unsafe extern "C" fn(*const u8, usize, bool, *mut Report) -> i32;
-
 pub fn judge_in_mode(call: JudgeInMode, query: &[u8], no_backslash_escape: bool) -> (i32, Report) {
     let query_at = query.as_ptr();
     number_and_report(|report| unsafe {
         call(query_at, query.len(), no_backslash_escape, report)
     })
-}
-
-/// `bind` by a template that is made for this call alone.
-#[cfg(templates)]
-pub fn bind_by_template(query: &[u8], form: &[u8], room: &mut [u8]) -> (i32, Report) {
-    crate::archive_template::Template::new(query, false).bind(form, room)
-}
-
-/// The same in the mode without backslash escapes.
-#[cfg(templates)]
-pub fn bind_by_template_without_backslashes(
-    query: &[u8],
-    form: &[u8],
-    room: &mut [u8],
-) -> (i32, Report) {
-    crate::archive_template::Template::new(query, true).bind(form, room)
 }

@@ -1,6 +1,6 @@
 //! The archive's templates.
 
-use crate::archive::number_and_report;
+use crate::archive::{exports, number_and_report};
 use plain::room::{DONE, ROOM, Report};
 
 /// A place of a query.
@@ -23,28 +23,9 @@ pub struct Head {
     piece_bytes: usize,
 }
 
-/// A call that makes a table.
-type MakeTable =
-    unsafe extern "C" fn(*const u8, usize, bool, *mut Head, *mut Place, usize, *mut Report) -> i32;
-
-/// A call that binds by one.
-type BindByTable = unsafe extern "C" fn(
-    *const u8,
-    usize,
-    *const Head,
-    *const Place,
-    usize,
-    *const u8,
-    usize,
-    bool,
-    *mut u8,
-    usize,
-    *mut Report,
-) -> i32;
-
-#[link(name = "mysql_params_c", kind = "static")]
-unsafe extern "C" {
-    fn mysql_params_table(
+exports! {
+    /// A call that makes a table.
+    MakeTable(
         query: *const u8,
         query_len: usize,
         no_backslash_escape: bool,
@@ -52,17 +33,14 @@ unsafe extern "C" {
         places: *mut Place,
         places_len: usize,
         report: *mut Report,
-    ) -> i32;
-    fn mysql_params_table_wide(
-        query: *const u8,
-        query_len: usize,
-        no_backslash_escape: bool,
-        head: *mut Head,
-        places: *mut Place,
-        places_len: usize,
-        report: *mut Report,
-    ) -> i32;
-    fn mysql_params_bind_template(
+    ):
+    mysql_params_table
+    mysql_params_table_wide
+}
+
+exports! {
+    /// A call that binds by one.
+    BindByTable(
         query: *const u8,
         query_len: usize,
         head: *const Head,
@@ -74,20 +52,9 @@ unsafe extern "C" {
         room: *mut u8,
         room_len: usize,
         report: *mut Report,
-    ) -> i32;
-    fn mysql_params_bind_template_wide(
-        query: *const u8,
-        query_len: usize,
-        head: *const Head,
-        places: *const Place,
-        places_len: usize,
-        form: *const u8,
-        form_len: usize,
-        no_backslash_escape: bool,
-        room: *mut u8,
-        room_len: usize,
-        report: *mut Report,
-    ) -> i32;
+    ):
+    mysql_params_bind_template
+    mysql_params_bind_template_wide
 }
 
 /// A query and its table.

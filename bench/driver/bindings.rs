@@ -1,6 +1,6 @@
 //! Random bindings, the same in each run.
 
-use crate::compared_sides::{ANYWHERE, Asked, IN_A_MODE, IN_BOTH_MODES};
+use crate::compared_sides::{ANYWHERE, Asked, IN_A_MODE, IN_BOTH_MODES, WIDE_IN_A_MODE};
 use crate::differences::Differences;
 use crate::random::Random;
 use crate::wide_names::WideNames;
@@ -74,7 +74,7 @@ const NAMES: [&[u8]; 10] = [
 ];
 
 /// Compares so many calls of `names`, and as many of `bind`, each in both modes, and of binding for any server and for both
-/// modes; all also by wide names.
+/// modes; all also by wide names, and by these with guarded literals.
 pub fn compare(count: u64, differences: &mut Differences) {
     let mut random = Random(20_261_122);
     for _ in 0..count {
@@ -100,6 +100,11 @@ pub fn compare(count: u64, differences: &mut Differences) {
         let longer = room + random.below(256);
         for mode in ANYWHERE.into_iter().chain(IN_BOTH_MODES) {
             differences.compare(Asked::Bind, mode, &query, &form, longer);
+        }
+        // Guarded ones are often as long as plain ones.
+        for mode in WIDE_IN_A_MODE {
+            let room = *random.pick(&[room, longer]);
+            differences.compare(Asked::Guarded, mode, &query, &form, room);
         }
         let room = query.len() + random.below(query.len() + 2);
         for mode in IN_A_MODE {
@@ -226,12 +231,24 @@ pub fn random_text(random: &mut Random) -> Vec<u8> {
         1..=20 => 245 + random.below(12),
         _ => random.below(24),
     };
-    match random.below(4) {
+    match random.below(5) {
         0 => random.bytes(len),
         1 => (0..len).map(|_| *random.pick(b"\0\n\r\x1a\\'\"\x08\t%_:?")).collect(),
         2 => "\u{E9}'\u{20AC}\u{10348}".bytes().cycle().take(len).collect(),
+        3 => letters_and_backslashes(random, len / 2),
         _ => (0..len).map(|_| *random.pick(b"abc 123'\\")).collect(),
     }
+}
+
+/// So many characters, mostly letters of several bytes and backslashes; the last is now and then cut off.
+fn letters_and_backslashes(random: &mut Random, count: usize) -> Vec<u8> {
+    let characters = ["\u{C0}", "\u{20AC}", "\u{10348}", "\\", "\\", "'", "a", "\0", "\x7F"];
+    let text: String = (0..count).map(|_| *random.pick(&characters)).collect();
+    let mut text = text.into_bytes();
+    if random.one_in(8) {
+        text.pop();
+    }
+    text
 }
 
 /// Appends a length-encoded string, now and then in a longer form than it needs.

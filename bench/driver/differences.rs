@@ -12,7 +12,14 @@ const MARGIN: usize = 16;
 /// No call has more sides.
 const MOST_SIDES: usize = 5;
 
-const ASKED: [Asked; 4] = [Asked::Names, Asked::Bind, Asked::Rows, Asked::Fragments];
+const ASKED: [Asked; 6] = [
+    Asked::Names,
+    Asked::Bind,
+    Asked::Rows,
+    Asked::Fragments,
+    Asked::Guarded,
+    Asked::GuardedFragments,
+];
 
 /// The numbers that a call has to answer with in a run: all of its own, except OUT_OF_MEMORY.
 fn wanted(asked: Asked) -> Vec<usize> {
@@ -21,7 +28,8 @@ fn wanted(asked: Asked) -> Vec<usize> {
         Asked::Names => vec![0, 2, 8],
         Asked::Bind => up_to(16).chain([18]).collect(),
         Asked::Rows => up_to(14).collect(),
-        Asked::Fragments => up_to(17).chain([19, 21]).collect(),
+        Asked::Fragments | Asked::GuardedFragments => up_to(17).chain([19, 21]).collect(),
+        Asked::Guarded => up_to(16).collect(),
     }
 }
 

@@ -3,7 +3,7 @@
 use crate::bindings::{
     self, append_string, append_value, damage, names_for, random_text, room_for,
 };
-use crate::compared_sides::{ANYWHERE, Asked, IN_A_MODE};
+use crate::compared_sides::{ANYWHERE, Asked, IN_A_MODE, WIDE_IN_A_MODE};
 use crate::differences::Differences;
 use crate::random::Random;
 use crate::wide_names::WideNames;
@@ -57,7 +57,7 @@ const AFTER: [&[u8]; 9] =
 /// How many items or names stand in a fragment at most, and how many rows.
 const MOST: usize = 4;
 
-/// Compares so many calls of fragments, each in both modes and for any server.
+/// Compares so many calls of fragments, each in both modes, for any server and with guarded literals.
 pub fn compare(count: u64, differences: &mut Differences) {
     let mut random = Random(20_261_126);
     for _ in 0..count {
@@ -81,6 +81,11 @@ pub fn compare(count: u64, differences: &mut Differences) {
         let longer = room + random.below(256);
         for mode in ANYWHERE {
             differences.compare(Asked::Fragments, mode, &query, &form, longer);
+        }
+        // Guarded ones are often as long as plain ones.
+        for mode in WIDE_IN_A_MODE {
+            let room = *random.pick(&[room, longer]);
+            differences.compare(Asked::GuardedFragments, mode, &query, &form, room);
         }
     }
 }

@@ -1,9 +1,7 @@
 //! The bench: times the archive against plain Rust, and compares their answers.
 
-#[cfg(templates)]
 mod anywhere_template;
 mod archive;
-#[cfg(templates)]
 mod archive_template;
 mod bindings;
 mod compare;
@@ -23,7 +21,6 @@ mod row_bindings;
 mod rows;
 mod sides;
 mod time;
-mod wide_archive;
 mod wide_names;
 
 use crate::report::Report;
@@ -33,8 +30,8 @@ use std::process::ExitCode;
 const USAGE: &str = "\
 time                    prints the ratios
 time FILE DATE KIT      also writes them into the file
-compare LONGEST COUNT   compares on all queries of up to LONGEST bytes, and on COUNT random bindings,
-                        rows, fragments and queries
+compare LONGEST COUNT   compares on all queries and values of up to LONGEST bytes, and on COUNT random
+                        bindings, rows, fragments and queries
 repeat SIDE CALL INPUT  does one call over and over, for two seconds
 peak SIDE CALL          prints by how many bytes one call of `bind`, `template` or `names` grows the
                         process";
@@ -81,7 +78,6 @@ fn measured() -> Report {
         (&sides::ANYWHERE, sides::anywhere(&bindings, &rooms)),
         (&rows::ROWS, rows::rows(&rows, &rooms)),
         (&fragments::FRAGMENTS, fragments::fragments(&fragments, &rooms)),
-        #[cfg(templates)]
         (&sides::BY_TEMPLATE, sides::by_template(&bindings, &rooms)),
     ];
     let inputs: Vec<&Input> = tables.iter().flat_map(|(_, inputs)| inputs).collect();

@@ -79,7 +79,6 @@ pub fn measure(report: &mut Report) {
     report.head(&head);
     let sides = ["archive", "table", "wide"];
     report.row("`bind`, rows of names", &sides.map(|side| ratio(side, "bind")));
-    #[cfg(templates)]
     report.row("the same by a template", &sides.map(|side| ratio(side, "template")));
     report.row("`names`, 8 MiB of `:a `", &sides.map(|side| ratio(side, "names")));
 }

@@ -2,8 +2,9 @@
 //! on every short query over the bytes of the constructs, on every short row of a client's pieces,
 //! and on random ones of all pieces.
 
+use crate::archive::{self, judge_in_mode};
 use crate::random::Random;
-use crate::{archive, wide_archive, wide_names};
+use crate::wide_names;
 use plain::client::{CLIENT_CONSTRUCTS, first_unportable_in_client};
 use plain::portable::{CONSTRUCTS, LATER_CONSTRUCTS, first_unportable};
 use plain::room::Report;
@@ -73,25 +74,31 @@ const NUMBERS: usize = OF_CLIENT.end + LATER_CONSTRUCTS.len();
 const CALLS: [Call; 4] = [
     Call {
         name: "first_unportable",
-        archive: archive::first_unportable,
+        archive: |query, mode| judge_in_mode(archive::mysql_params_first_unportable, query, mode),
         plain: first_unportable,
         in_client: false,
     },
     Call {
         name: "first_unportable_in_client",
-        archive: archive::first_unportable_in_client,
+        archive: |query, mode| {
+            judge_in_mode(archive::mysql_params_first_unportable_in_client, query, mode)
+        },
         plain: first_unportable_in_client,
         in_client: true,
     },
     Call {
         name: "first_unportable_wide",
-        archive: wide_archive::first_unportable,
+        archive: |query, mode| {
+            judge_in_mode(archive::mysql_params_first_unportable_wide, query, mode)
+        },
         plain: wide_names::first_unportable_by_wide_names,
         in_client: false,
     },
     Call {
         name: "first_unportable_in_client_wide",
-        archive: wide_archive::first_unportable_in_client,
+        archive: |query, mode| {
+            judge_in_mode(archive::mysql_params_first_unportable_in_client_wide, query, mode)
+        },
         plain: wide_names::first_in_client_by_wide_names,
         in_client: true,
     },

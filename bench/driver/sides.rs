@@ -1,9 +1,8 @@
 //! The sides that are timed.
 
 use crate::archive;
-use crate::fragments;
-#[cfg(templates)]
 use crate::archive_template::Template;
+use crate::fragments;
 use crate::inputs::{self, Binding, form_of, params_of};
 use crate::memory;
 use crate::time::{Input, Side};
@@ -29,7 +28,6 @@ pub const ANYWHERE: [&str; 4] =
     ["`bind_anywhere`", "table", "table, behind", "the archive's `bind`"];
 
 /// The same of binding by a template that was made before.
-#[cfg(templates)]
 pub const BY_TEMPLATE: [&str; 6] = [
     "`bind` by a template",
     "table",
@@ -152,12 +150,10 @@ fn anywhere_input<'a>(binding: &'a Binding, rooms: &'a [RefCell<Vec<u8>>]) -> In
     Input { name: binding.name, sides, last_differs: false }
 }
 
-#[cfg(templates)]
 pub fn by_template<'a>(bindings: &'a [Binding], rooms: &'a [RefCell<Vec<u8>>]) -> Vec<Input<'a>> {
     bindings.iter().map(|binding| template_input(binding, rooms)).collect()
 }
 
-#[cfg(templates)]
 fn template_input<'a>(binding: &'a Binding, rooms: &'a [RefCell<Vec<u8>>]) -> Input<'a> {
     let query = binding.query.as_slice();
     let archive = Template::new(query, false);
@@ -205,12 +201,12 @@ pub fn answered_once(side: &str, call: &str, binding: &Binding) -> Vec<u8> {
         ("table", "bind") => return plain(TABLE, binding),
         ("wide", "bind") => return plain(WIDE, binding),
         ("archive", "bind") => behind_calls(archive::bind, binding, &room),
-        #[cfg(templates)]
         ("table", "template") => return plain_by_template(TABLE, binding),
-        #[cfg(templates)]
         ("wide", "template") => return plain_by_template(WIDE, binding),
-        #[cfg(templates)]
-        ("archive", "template") => behind_calls(archive::bind_by_template, binding, &room),
+        ("archive", "template") => {
+            let call: BindForm = |query, form, room| Template::new(query, false).bind(form, room);
+            behind_calls(call, binding, &room)
+        }
         ("archive", "names") => names(archive::names),
         ("table", "names") => names(TABLE.names),
         ("wide", "names") => names(WIDE.names),
@@ -220,7 +216,6 @@ pub fn answered_once(side: &str, call: &str, binding: &Binding) -> Vec<u8> {
 }
 
 /// Plain Rust by a template that is made for this call alone.
-#[cfg(templates)]
 fn plain_by_template(kind: Kind, binding: &Binding) -> Vec<u8> {
     let template = (kind.template)(&binding.query);
     let text = (kind.bind_template)(&template, &params_of(&binding.given));

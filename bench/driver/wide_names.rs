@@ -1,7 +1,7 @@
 //! Plain Rust by wide names, which may have capitals. It is compared and not timed.
 
 use crate::readings::Read;
-use plain::bind::{bind, bind_anywhere, bind_in_both_modes};
+use plain::bind::{bind, bind_anywhere, bind_guarded, bind_in_both_modes};
 use plain::client::first_unportable_in_client;
 use plain::portable::first_unportable;
 use plain::query::lowered;
@@ -25,6 +25,10 @@ pub fn bind_form<S: Search>(query: &[u8], form: &[u8], room: &mut [u8]) -> (i32,
 
 pub fn bind_form_anywhere<S: Search>(query: &[u8], form: &[u8], room: &mut [u8]) -> (i32, Report) {
     room::bind_form(form, room, |params| bind_anywhere::<S>(query, params))
+}
+
+pub fn bind_form_guarded<S: Search>(query: &[u8], form: &[u8], room: &mut [u8]) -> (i32, Report) {
+    room::bind_form(form, room, |params| bind_guarded::<S>(query, params))
 }
 
 pub fn bind_form_in_both_modes<S: Search>(

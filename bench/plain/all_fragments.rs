@@ -2,16 +2,18 @@
 //! "Answers in the caller's room". They are compared, and not timed: `fragments.rs` is for one list
 //! or rows.
 
-use crate::bind::{BindError, Name, stands_alone};
+use crate::bind::{BindError, Name, is_steady, refuse_unsteady_or_unportable, stands_alone};
 use crate::brackets::{Implicit, first_unbracketed};
 use crate::form::{FormError, Rest};
-use crate::portable::first_unportable;
-use crate::query::{lowered, next_place};
+use crate::query::next_place;
 use crate::room::{
     FAULT, Report, UNBRACKETED, UNSTEADY_FRAGMENT, bind_answer, fill_text, form_answer,
 };
 use crate::search::Search;
-use crate::value::{Value, append_double, append_literal, append_steady_literal, finite_double};
+use crate::value::{
+    Value, append_double, append_guarded_literal, append_literal, append_steady_literal,
+    finite_double,
+};
 
 pub const DECIMAL: u8 = 128;
 pub const LIST: u8 = 129;
@@ -133,6 +135,11 @@ pub fn bind_form_anywhere<S: Search>(query: &[u8], form: &[u8], room: &mut [u8])
     answer(read(form).and_then(|given| bind_anywhere::<S>(query, &given)), room)
 }
 
+/// The same with guarded literals.
+pub fn bind_form_guarded<S: Search>(query: &[u8], form: &[u8], room: &mut [u8]) -> (i32, Report) {
+    answer(read(form).and_then(|given| bind_guarded::<S>(query, &given)), room)
+}
+
 fn answer(text: Result<Vec<u8>, Refusal>, room: &mut [u8]) -> (i32, Report) {
     match text {
         Ok(text) => fill_text(&text, room),
@@ -225,13 +232,22 @@ pub fn bind<S: Search>(query: &[u8], given: &Given) -> Result<Vec<u8>, Refusal> 
 
 /// The steady text of a query with fragments.
 pub fn bind_anywhere<S: Search>(query: &[u8], given: &Given) -> Result<Vec<u8>, Refusal> {
-    if let Some(position) = query.iter().position(|byte| !is_steady(*byte)) {
-        return Err(bind_answer(&BindError::Unsteady { position }));
-    }
-    let (number, position) = first_unportable(&lowered::<S>(query), false);
-    if number != 0 {
-        return Err(bind_answer(&BindError::Unportable { number, position }));
-    }
+    let placed = steadily_placed::<S>(query, given)?;
+    Ok(written(query, &placed, append_steady_literal::<S>))
+}
+
+/// The guarded text of a query with fragments.
+pub fn bind_guarded<S: Search>(query: &[u8], given: &Given) -> Result<Vec<u8>, Refusal> {
+    let placed = steadily_placed::<S>(query, given)?;
+    Ok(written(query, &placed, append_guarded_literal::<S>))
+}
+
+/// The places of a query for any server, each with its fragment, whose names are steady.
+fn steadily_placed<'f, S: Search>(
+    query: &[u8],
+    given: &'f Given,
+) -> Result<Vec<(Place, &'f Fragment)>, Refusal> {
+    refuse_unsteady_or_unportable::<S>(query).map_err(|error| bind_answer(&error))?;
     let placed = placed::<S>(query, given)?;
     let is_unsteady = |fragment: &Fragment| {
         names(fragment).into_iter().flatten().flatten().any(|byte| !is_steady(*byte))
@@ -239,11 +255,7 @@ pub fn bind_anywhere<S: Search>(query: &[u8], given: &Given) -> Result<Vec<u8>, 
     if let Some(place) = placed.iter().position(|(_, fragment)| is_unsteady(fragment)) {
         return Err((UNSTEADY_FRAGMENT, Report { place, ..Report::default() }));
     }
-    Ok(written(query, &placed, append_steady_literal::<S>))
-}
-
-fn is_steady(byte: u8) -> bool {
-    byte < 128 && byte != b'\\'
+    Ok(placed)
 }
 
 /// Start and end of a place.

@@ -3,7 +3,9 @@
 use crate::portable::{first_backslash, first_unportable};
 use crate::query::{lowered, next_place};
 use crate::search::{Search, set};
-use crate::value::{Params, Value, append_literal, append_steady_literal};
+use crate::value::{
+    Params, Value, append_guarded_literal, append_literal, append_steady_literal,
+};
 
 #[derive(Debug)]
 pub enum BindError {
@@ -71,24 +73,40 @@ pub fn bind<S: Search>(query: &[u8], params: &Params) -> Result<Vec<u8>, BindErr
 
 /// Binds with steady literals, a query that is steady and portable.
 pub fn bind_anywhere<S: Search>(query: &[u8], params: &Params) -> Result<Vec<u8>, BindError> {
-    if let Some(position) = query.iter().position(|byte| *byte >= 128 || *byte == b'\\') {
-        return Err(BindError::Unsteady { position });
-    }
-    bind_portable::<S>(query, params)
+    refuse_unsteady_or_unportable::<S>(query)?;
+    bind_with::<S>(query, params, append_steady_literal::<S>)
+}
+
+/// The same with guarded literals.
+pub fn bind_guarded<S: Search>(query: &[u8], params: &Params) -> Result<Vec<u8>, BindError> {
+    refuse_unsteady_or_unportable::<S>(query)?;
+    bind_with::<S>(query, params, append_guarded_literal::<S>)
 }
 
 /// Binds with steady literals, a portable query of which no string has a backslash.
 pub fn bind_in_both_modes<S: Search>(query: &[u8], params: &Params) -> Result<Vec<u8>, BindError> {
-    match first_backslash(query) {
-        Some(position) => Err(BindError::Backslash { position }),
-        None => bind_portable::<S>(query, params),
+    if let Some(position) = first_backslash(query) {
+        return Err(BindError::Backslash { position });
     }
+    refuse_unportable::<S>(query)?;
+    bind_with::<S>(query, params, append_steady_literal::<S>)
 }
 
-/// Binds with steady literals, a query that is portable.
-fn bind_portable<S: Search>(query: &[u8], params: &Params) -> Result<Vec<u8>, BindError> {
+/// Refuses a query that isn't one for any server.
+pub(crate) fn refuse_unsteady_or_unportable<S: Search>(query: &[u8]) -> Result<(), BindError> {
+    if let Some(position) = query.iter().position(|byte| !is_steady(*byte)) {
+        return Err(BindError::Unsteady { position });
+    }
+    refuse_unportable::<S>(query)
+}
+
+pub(crate) fn is_steady(byte: u8) -> bool {
+    byte < 128 && byte != b'\\'
+}
+
+fn refuse_unportable<S: Search>(query: &[u8]) -> Result<(), BindError> {
     match first_unportable(&lowered::<S>(query), false) {
-        (0, _) => bind_with::<S>(query, params, append_steady_literal::<S>),
+        (0, _) => Ok(()),
         (number, position) => Err(BindError::Unportable { number, position }),
     }
 }

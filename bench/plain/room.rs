@@ -20,11 +20,11 @@ pub struct Report {
 
 pub const DONE: i32 = 0;
 pub const ROOM: i32 = 2;
-const FORM_END: i32 = 3;
+pub const FORM_END: i32 = 3;
 const FORM_LENGTH_LEAD: i32 = 4;
 const FORM_TYPE: i32 = 5;
 const FORM_MIXED: i32 = 6;
-const FORM_REPEATED: i32 = 7;
+pub const FORM_REPEATED: i32 = 7;
 const MIXED: i32 = 8;
 const MISSING: i32 = 9;
 const NAMED_FOR_POSITIONAL: i32 = 10;

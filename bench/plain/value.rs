@@ -38,7 +38,7 @@ impl Params {
     }
 }
 
-/// No literal of the value is longer, steady or not.
+/// No plain or steady literal of the value is longer.
 pub fn literal_room(value: &Value) -> usize {
     match value {
         Value::Bytes(bytes) => 2 * bytes.len() + 11,
@@ -122,6 +122,41 @@ pub fn append_steady_literal<S: Search>(text: &mut Vec<u8>, value: &Value) -> bo
         append_hexadecimal(text, bytes);
     }
     true
+}
+
+/// Appends the guarded literal of a value; a float has none.
+pub fn append_guarded_literal<S: Search>(text: &mut Vec<u8>, value: &Value) -> bool {
+    match value {
+        Value::Bytes(bytes) if has_guarded_quotes::<S>(bytes) => {
+            append_in_guarded_quotes(text, bytes);
+            true
+        }
+        _ => append_steady_literal::<S>(text, value),
+    }
+}
+
+/// Whether the guarded literal of these bytes is in quotes without an introducer.
+fn has_guarded_quotes<S: Search>(bytes: &[u8]) -> bool {
+    let has_unescaped = S::NO_BACKSLASH_ESCAPE && bytes.contains(&b'\\');
+    std::str::from_utf8(bytes).is_ok() && !has_unescaped
+}
+
+/// Appends the bytes in quotes, each quote and each backslash doubled. A backslash directly after a byte from 128 on
+/// begins a string of its own.
+fn append_in_guarded_quotes(text: &mut Vec<u8>, bytes: &[u8]) {
+    text.push(b'\'');
+    let mut before = 0;
+    for byte in bytes {
+        if *byte == b'\\' && before >= 128 {
+            text.extend_from_slice(b"' '");
+        }
+        if matches!(byte, b'\'' | b'\\') {
+            text.push(*byte);
+        }
+        text.push(*byte);
+        before = *byte;
+    }
+    text.push(b'\'');
 }
 
 fn append_bytes<S: Search>(text: &mut Vec<u8>, bytes: &[u8]) {
