@@ -1102,6 +1102,7 @@ struct mysql_params_template {
     bool no_backslash_escape;
     bool wide_names;
     bool is_anywhere; /* the second table was made: mysql_params_bind_anywhere_wide binds the query */
+    bool is_plain;    /* by wide names: the query isn't ASCII without a backslash, and is portable in its mode */
 };
 
 /* Returns the places of a template, which stand after its fields. */
@@ -1127,6 +1128,20 @@ static const uint8_t *query_of(const mysql_params_template *made)
 /* The calls that make a table, by names without capitals and by wide ones. */
 typedef int32_t table_call(const uint8_t *query, size_t query_len, bool no_backslash_escape, mysql_params_table_head *head,
                            mysql_params_place *places, size_t places_len, mysql_params_report *report);
+
+/* Finds out of a template's query what it is by wide names, and makes its second table. A query that is one for any mode has as
+ * many places in each. Without memory for the tests it is neither. */
+static void test_query(mysql_params_template *made, mysql_params_place *places)
+{
+    mysql_params_report report = {0, 0, 0, 0, 0, 0};
+    const uint8_t *query = query_of(made);
+    int32_t number = mysql_params_table_anywhere_wide(query, made->query_len, &made->anywhere, places, made->anywhere_len,
+                                                      &report);
+    made->is_anywhere = number == MYSQL_PARAMS_DONE;
+    made->is_plain = number == MYSQL_PARAMS_UNSTEADY &&
+                     mysql_params_first_unportable_wide(query, made->query_len, made->no_backslash_escape, &report) ==
+                         MYSQL_PARAMS_PORTABLE;
+}
 
 /* Makes a template by a call. */
 static mysql_params_template *new_template(table_call *table, const uint8_t *query, size_t query_len,
@@ -1163,10 +1178,8 @@ static mysql_params_template *new_template(table_call *table, const uint8_t *que
         free(made);
         return NULL;
     }
-    /* A query that is one for any mode has as many places in each. Without memory for the test there is no second table. */
-    made->is_anywhere = wide_names && mysql_params_table_anywhere_wide((uint8_t *)copy, query_len, &made->anywhere,
-                                                                      (mysql_params_place *)places + places_len,
-                                                                      anywhere_len, &report) == MYSQL_PARAMS_DONE;
+    if (wide_names)
+        test_query(made, (mysql_params_place *)places + places_len);
     return made;
 }
 
@@ -1268,6 +1281,8 @@ int32_t mysql_params_template_bind_for_connection(const mysql_params_template *m
         return mysql_params_bind_template_guarded_wide(query, made->query_len, &made->anywhere, anywhere_places_of(made),
                                                        made->anywhere_len, form, form_len, no_backslash_escape, room,
                                                        room_len, report);
+    if (made->is_plain && !has_fragments && no_backslash_escape == made->no_backslash_escape)
+        return mysql_params_template_bind(made, form, form_len, room, room_len, report);
     return mysql_params_bind_for_connection_wide(query, made->query_len, form, form_len, has_fragments, no_backslash_escape,
                                                  room, room_len, report);
 }

@@ -224,8 +224,8 @@ int32_t mysql_params_bind_for_connection_wide(const uint8_t *query, size_t query
                                               mysql_params_report *report);
 
 /* The same to the query of a template of mysql_params_template_new_wide, in whatever mode that was made; it returns
- * MYSQL_PARAMS_OTHER_TABLE for one of mysql_params_template_new. If the query is one for any mode and any server, and
- * `has_fragments` is false, the query isn't walked. */
+ * MYSQL_PARAMS_OTHER_TABLE for one of mysql_params_template_new. If `has_fragments` is false, a query that is one for any mode and
+ * any server isn't walked, nor is one that isn't ASCII without a backslash, in the mode of its template, if it is portable. */
 int32_t mysql_params_template_bind_for_connection(const mysql_params_template *made, const uint8_t *form, size_t form_len,
                                                   bool has_fragments, bool no_backslash_escape, uint8_t *room,
                                                   size_t room_len, mysql_params_report *report);

@@ -8,6 +8,7 @@ Under valgrind the extension's own memory is judged too:
 import datetime
 import decimal
 import gc
+import itertools
 import os
 import resource
 import sys
@@ -27,6 +28,7 @@ VALUES = [None, True, 7, 1 << 63, 0.5, "it's", b"\xff", MOMENT, MOMENT.date(), M
 MORE = [*VALUES, decimal.Decimal("1.5"), 1 << 70, In([1, "a"]), In([(1, 2), [3, 4]]), Identifier("a", "b"), bytearray(b"a")]
 MORE += [[Identifier("a"), Identifier("b")], Assignments({"a": 1, Identifier("t", "b"): "x"})]
 LONG = "x" * (1 << 17)
+NUMBERS = itertools.count()
 TEMPLATE = Template("IN (:a)")
 
 
@@ -62,6 +64,8 @@ ANSWERS = {
     "new template": lambda: Template("?, ?").bind_form(b"\0\6\0\0\6\0"),
     "rows": lambda: bind_rows("?, ?", [(1, "a"), [0.5, None], (n for n in (1, 2))]),
     "to send": lambda: send(b"?, ?", MORE[5:7], ("\\", 1), ["'", In([1, "\\"])], [Identifier("\u00e4"), "\\"]),
+    "to send, another query each time": lambda: send(b"?, %d" % (next(NUMBERS) % 1_000), [1], [2], [3]),
+    "to send, long query": lambda: send(b"?" + b" " * 3_000, [1], ["'"], [3]),
     "to send, steady": lambda: send(b"?", ["\\"], [In([1, 0.5])], steady=True),
     "to send, plain": lambda: send(b"? #\\", ["\\"], [In([1, 0.5])]),
     "lists": lambda: bind("IN (:a), VALUES :b", {"a": [1, "a"], "b": [(1, 2), [3, 4]]}),

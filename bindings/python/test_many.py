@@ -333,16 +333,36 @@ class Test(unittest.TestCase):
         of_any += ["_utf8mb4 0x0A, _utf8mb4''", "_utf8mb4'''', _utf8mb4 0x5C"]
         for sql_mode, steady, wanted in (("", False, escaped), (NONE, False, bare), ("", True, of_any), (NONE, True, of_any)):
             texts = [text.encode() for text in wanted]
-            for times in (1, 3_000):
-                with self.subTest(sql_mode=sql_mode, steady=steady, times=times):
-                    connection = PyMySQL(sql_mode)
-                    executemany(connection.cursor(), "SELECT ?, ?", rows * times, steady=steady)
-                    self.assertTrue(connection.sent == [b"SELECT " + text for text in texts] * times)
+            named = [{"B": second, "a": first, "other": 0} for first, second in rows]
+            for times, front in itertools.product((1, 3_000), ("SELECT ", "SELECT " + "a, " * 700)):
+                with self.subTest(sql_mode=sql_mode, steady=steady, times=times, length=len(front)):
+                    for query, given in (("?, ?", rows), (":a, :B", named)):
+                        connection = PyMySQL(sql_mode)
+                        executemany(connection.cursor(), front + query, given * times, steady=steady)
+                        self.assertTrue(connection.sent == [front.encode() + text for text in texts] * times)
             connection = PyMySQL(sql_mode)
             executemany(connection.cursor(), INSERT, rows, steady=steady)
             execute_rows(connection.cursor(), ROWS, rows[:-1], steady=steady)  # A row takes no list.
             values = [b"INSERT INTO t VALUES (%s)" % b"), (".join(some) for some in (texts, texts[:-1])]
             self.assertEqual(connection.sent, values)
+
+    def test_names_of_rows(self):
+        """Rows whose names are the same objects, equal ones, in another order, more, of other types, or refused."""
+        names = ["a", "B", *(f"n{number}" for number in range(40))]
+        query = "SELECT " + ", ".join(f":{name}" for name in names)
+        equal = ["".join(list(name)) for name in names]
+        for given in (names, equal, names[::-1], [name.encode() for name in names], names + ["other"], ["o", *names], names[20:] + equal[:20]):
+            rows = [{name: number for number, name in enumerate(some)} for some in (given, names, given, given, equal)]
+            connection = PyMySQL()
+            executemany(connection.cursor(), query, rows)
+            wanted = []
+            for row in rows:
+                found = {name if type(name) is str else name.decode(): number for name, number in row.items()}
+                wanted.append(("SELECT " + ", ".join(str(found[name]) for name in names)).encode())
+            self.assertEqual(connection.sent, wanted)
+        for row, kind in (({"a": 1}, mysql_params.MissingError), ({"": 1}, ValueError), ({5: 1}, TypeError), ({"\ud800": 1}, UnicodeEncodeError)):
+            found = self.refused(kind, executemany, "UPDATE t SET a = :a, b = :b", [{"a": 1, "b": 2}] * 3 + [row])
+            self.assertEqual(found.row, 3)
 
     def test_rows_of_queries_and_names_that_are_not_steady(self):
         rows = [(1, "it's\\"), (2, "\n")]

@@ -26,6 +26,8 @@ UTC = datetime.timezone.utc
 DAY = datetime.timedelta(days=1)
 KEPT = 1 << 16
 """The bytes of the room that the module keeps, over which a call lets the GIL go."""
+LONGEST = 2048
+"""The bytes of the longest query of which a template is kept."""
 
 
 class Number(int):
@@ -306,6 +308,75 @@ class Test(unittest.TestCase):
             several = b"".join(b", " + guarded(value, mode) for value in values[:5_050])
             self.assertTrue(sent(b"0, ?", [In(values[:5_050])], mode) == b"0" + several)
 
+    def test_texts_of_queries_that_are_kept(self):
+        """A query that is sent again and again has the same texts each time, in both modes, whatever its length."""
+        values = [b"it's", b"\\", b"\xc3\xa9\\'", b"\xff\\"]
+        for length in (20, LONGEST - 1, LONGEST, LONGEST + 1):
+            for places in (b"?, ?", b":a, :Ab", b":Ab, :Ab"):
+                query = b"SELECT " + b"9" * (length - len(places) - 9) + b", " + places
+                self.assertEqual(len(query), length)
+                marked = query.replace(b":Ab", b"%(Ab)b").replace(b":a", b"%(a)b").replace(b"?, ?", b"%(a)b, %(Ab)b")
+                for value, mode in itertools.product(values * 3, (False, True, True)):
+                    params = [value, 7] if b"?" in query else {b"a": value, "Ab": 7}
+                    wanted = marked % {b"a": guarded(value, mode), b"Ab": b"7"}
+                    self.assertEqual(sent(query, params, mode), wanted)
+                    texts = []
+                    _native.bind_rows(query, [params] * 4, mode, None, True, False, texts)
+                    self.assertEqual(texts, [wanted] * 4)
+
+    def test_refusals_of_queries_that_are_kept(self):
+        """So is it refused each time: the fields are of docs/RULES.md, "Answers in the caller's room"."""
+        for query, params, kind, fields in (
+            (b"SELECT [:a", {"a": 1}, mysql_params.UnportableError, (7, mysql_params.Construct.BRACKET)),
+            (b"SELECT :a ?", {"a": 1}, mysql_params.MixedError, ()),
+            (b"SELECT :a, :bc", {"a": 1}, mysql_params.MissingError, None),
+            (b"SELECT :c, :a, :B", {"d": 1}, mysql_params.MissingError, None),
+            (b"SELECT :c, :a", {}, mysql_params.MissingError, None),
+            (b"SELECT ?, ?", [1], mysql_params.MarkCountError, None),
+            (b"SELECT 1?", [1], mysql_params.NotAloneError, None),
+            (b"SELECT ?", [float("nan")], mysql_params.FloatError, None),
+            (b"SELECT ?", {"a": 1}, mysql_params.NamedForPositionalError, None),
+            (b"SELECT :a", [1], mysql_params.PositionalForNamedError, None),
+            (b"SELECT :a", {"a": 1, b"a": 2}, mysql_params.RepeatedNameError, None),
+        ):
+            found = []
+            for mode in (False, True, False, True, False, True):
+                with self.subTest(query=query, mode=mode), self.assertRaises(kind) as raised:
+                    sent(query, params, mode)
+                found.append((raised.exception.args, str(raised.exception)))
+            if fields is None:  # Of a query that is portable it is that of bind.
+                with self.assertRaises(kind) as raised:
+                    bind(query, params)
+                fields = raised.exception.args
+            self.assertEqual(found, found[:1] * 6)
+            self.assertEqual(found[0][0], fields)
+
+    def test_threads_and_queries_that_are_kept(self):
+        """Threads that send more queries than are kept, of which some share a slot, get their own texts."""
+        values = [b"it's", b"\\", b"\xc3\xa9\\'", b"it's" * KEPT]
+        literals = {(value, mode): guarded(value, mode) for value in values for mode in (False, True)}
+        self.addCleanup(sys.setswitchinterval, sys.getswitchinterval())
+        sys.setswitchinterval(1e-5)
+        faults = []
+
+        def run(choice):
+            for _ in range(3_000):
+                number, mode = choice.randrange(600), choice.random() < 0.5
+                value = choice.choice(values[:3]) if choice.random() < 0.98 else values[3]
+                query, texts = b"SELECT %d, :a" % number, []
+                for _ in range(choice.randrange(5)):
+                    texts.append(sent(query, {"a": value}, mode))
+                _native.bind_rows(query, [{"a": value}] * choice.randrange(5), mode, None, True, False, texts)
+                if any(text != b"SELECT %d, " % number + literals[value, mode] for text in texts):
+                    faults.append((query, mode, value[:9]))
+
+        threads = [threading.Thread(target=run, args=(random.Random(seed),)) for seed in range(8)]
+        for thread in threads:
+            thread.start()
+        for thread in threads:
+            thread.join()
+        self.assertEqual(faults, [])
+
     def test_steady_and_plain_texts_to_send(self):
         rows = [("it's\\",), ("\n",), (In(["'", 0.5]),)]
         steady = [b"_utf8mb4 0x697427735C", b"_utf8mb4 0x0A", b"_utf8mb4'''', 0.5e0"]
@@ -344,6 +415,10 @@ class Test(unittest.TestCase):
         text = "it's " * (5 << 20)
         query = "SELECT 1 /* " + "a 'b' " * (5 << 20) + "*/"
         template = mysql_params.Template("?")
+
+        def rows_to_send(rows):
+            _native.bind_rows(b"?", rows, False, None, True, False, [])
+
         for name, call in (
             ("bind", lambda: bind("?", [text])),
             ("bind_anywhere", lambda: bind_anywhere("?", [text])),
@@ -351,6 +426,8 @@ class Test(unittest.TestCase):
             ("names", lambda: mysql_params.names(query)),
             ("first_unportable", lambda: mysql_params.first_unportable(query)),
             ("bind_rows", lambda: bind_rows("?", [[text[: 1 << 20]]] * 25)),
+            ("rows to send", lambda: [rows_to_send([[text[: 1 << 14]]] * 1_600) for _ in range(10)]),
+            ("short rows to send", lambda: rows_to_send([["it's"]] * 300_000)),
         ):
             most = 0
             for _ in range(5):  # A processor that is shared may not come to the other thread in time.

@@ -397,9 +397,33 @@ class Test(unittest.TestCase):
             self.assertEqual(raised.exception.args, (7, Construct.EXECUTABLE_COMMENT))
             self.assertTrue(str(raised.exception).startswith("Not portable at byte 7 of the query: `/*!` is executed"))
             self.assertEqual(connection.sent, [])
-        for _ in range(2):
-            with self.assertRaises(mysql_params.UnportableError):
-                self.send(PyMySQL(), "SELECT " + "x, " * 2000 + "[:a")
+        # A query that is ASCII without a backslash, and others, sent more often than one without a template is walked.
+        for front in ("SELECT ", "SELECT '\u00e9', ", "SELECT '\\\\', ", "SELECT " + "x, " * 2000):
+            for behind in ("[:a", ":A, [1]"):
+                query = front + behind
+                position = query.encode().index(b"[")
+                for call in (
+                    lambda own: execute(own.cursor(), query, {"a": HOSTILE, "A": [1]}),
+                    lambda own: exec_driver_sql(Pooled(own), query, {"a": 1, "A": HOSTILE}),
+                    lambda own: execute(own.cursor(), query, {"b": 1}),
+                    lambda own: mysql_params.executemany(own.cursor(), query, [{"a": 1, "A": 2}, {}]),
+                    lambda own: mysql_params.executemany(own.cursor(), query, [{"a": {1}}]),
+                    lambda own: mysql_params.executemany(own.cursor(), query, []),
+                    lambda own: mysql_params.execute_rows(own.cursor(), query, [(1, 2)]),
+                    lambda own: mysql_params.execute_rows(own.cursor(), query, []),
+                ) * 2:
+                    for sql_mode in (STRICT, NONE):
+                        connection = PyMySQL(sql_mode)
+                        with self.subTest(query=query[-40:], sql_mode=sql_mode):
+                            with self.assertRaises(mysql_params.UnportableError) as raised:
+                                call(connection)
+                            self.assertEqual(raised.exception.args, (position, Construct.BRACKET))
+                            self.assertIsNone(raised.exception.row)
+                            self.assertEqual(connection.sent, [])
+        for _ in range(4):
+            with self.assertRaises(mysql_params.UnportableError) as raised:
+                self.send(PyMySQL(), "SELECT [:a", steady=True)
+            self.assertEqual(raised.exception.args, (7, Construct.BRACKET))
         # Which it is depends on the mode.
         query = "SELECT 'a\\', [1], '"
         self.assertEqual(self.send(PyMySQL(), query, []), query.encode())
@@ -488,7 +512,7 @@ class Test(unittest.TestCase):
                     self.assertEqual(self.send(PyMySQL(sql_mode), params={"a": value}), f"SELECT {literal}".encode())
                     self.assertEqual(self.send(PyMySQL(sql_mode), "SELECT ?", [value]), f"SELECT {literal}".encode())
         self.assertEqual(self.send(PyMySQL(), "SELECT 1 IN (:a)", {"a": ["it's", 2]}), b"SELECT 1 IN ('it''s', 2)")
-        # Of a long query a table is kept, by which no guarded text is bound.
+        # Of a query that is so long no template is kept.
         columns = "a, " * 2000
         self.assertEqual(self.send(PyMySQL(), f"SELECT {columns}:a", {"a": "it's"}), f"SELECT {columns}'it''s'".encode())
 

@@ -10,16 +10,36 @@ from mysql_params import OutOfMemoryError, Template, UnbracketedError, _archive,
 from mysql_params import bind_in_both_modes, bind_rows, first_unportable, names
 from test_mysql_params import Result
 
-MOST = ctypes.c_size_t.in_dll(ctypes.CDLL(_native.__file__), "told_most")
+LIBRARY = ctypes.CDLL(_native.__file__)
+MOST = ctypes.c_size_t.in_dll(LIBRARY, "told_most")
+TABLES_REFUSED = ctypes.c_bool.in_dll(LIBRARY, "told_tables_refused")
 KEPT = 1 << 16
 """The bytes of the room that the module keeps."""
+LONGEST = 2048
+"""The bytes of the longest query of which a template is kept."""
+
+
+def sent(query, params=(1,), mode=False, steady=False):
+    """Return the text to send of a query."""
+    form, is_fragments = _native.written(params, None, True)
+    return _native.bind_written(query, form, mode, is_fragments, steady)
+
+
+def sent_rows(query, rows, mode=False, steady=False):
+    """Return the texts to send of rows."""
+    texts = []
+    _native.bind_rows(query, rows, mode, None, True, steady, texts)
+    return texts
+
 
 CALLS = (
     ("bind", lambda query, given: bind(query, given)),
     ("bind_anywhere", lambda query, given: bind_anywhere(query, given)),
     ("bind_in_both_modes", lambda query, given: bind_in_both_modes(query, given)),
     ("bind_form", lambda query, given: bind_form(query, b"")),
-    ("text to send", lambda query, given: _native.bind_written(query.encode(), _native.written(given, None, True)[0], False, False, False)),
+    ("text to send", lambda query, given: sent(query.encode(), given)),
+    ("steady text to send", lambda query, given: sent(query.encode(), given, steady=True)),
+    ("text of a row to send", lambda query, given: sent_rows(query.encode(), [given])[0]),
     ("bind of a list", lambda query, given: bind(query, [given])),
     ("bind_anywhere of a list", lambda query, given: bind_anywhere(query, [given])),
 )
@@ -82,9 +102,84 @@ class Test(unittest.TestCase):
                 bind_rows(f"0 0 0 2 {byte}", [[1]])
         self.assertEqual(bind_rows("0 0 0 4 1", [[1]]), [b"\x01", b"\x01"])
         with self.assertRaisesRegex(RuntimeError, "it read more than the forms"):
-            _native.bind_rows(b"0 0 0 4 1", [[1]], False, None, True, False, [])  # More texts than it read forms.
-        with self.assertRaisesRegex(RuntimeError, "it read more than the forms"):
             bind_rows("8 0 12 0", [[1]])  # A refusal of the row after the last.
+
+    def letters(self, query, times, **options):
+        """Return the letters of the texts that are sent of a query, one time after another."""
+        return "".join(sent(query, **options).decode() for _ in range(times))
+
+    def test_templates_that_are_kept(self):
+        """A query is walked two times, and has a template from the third on, in each mode and for steady texts too."""
+        for steady in (False, True):
+            query = b" 2 1 %d" % steady
+            self.assertEqual(self.letters(query, 4, steady=steady), "xxyy")
+            self.assertEqual(self.letters(query, 2, mode=True, steady=steady), "yy")
+            self.assertEqual(self.letters(query, 2, steady=not steady), "yy")
+            self.assertEqual(bind_anywhere(query, [1]), b"y")
+            # Not for more than values, nor of an answer that is longer than the room that is kept.
+            self.assertEqual(self.letters(query, 4, params=[[1]], steady=steady), "xxxx")
+            self.assertEqual(sent(query, ["a" * KEPT], steady=steady), b"x")
+            self.assertEqual(sent_rows(query, [(1,), (0.5,), (2,)], steady=steady), [b"y", b"x", b"y"])
+        # A query that isn't one for any mode and server is walked each time.
+        self.assertEqual(self.letters(b"2 1 2", 6), "xxxxxx")
+
+    def test_templates_of_many_queries(self):
+        """Each has its own answer, whichever queries share its slot, and a template after it was given often enough in a row."""
+        queries = [b" 2 %d 3 %d" % (number % 7 + 1, number) for number in range(2_000)]
+        for _ in range(4):
+            for number, query in enumerate(queries):
+                self.assertIn(sent(query), (b"x" * (number % 7 + 1), b"y" * (number % 7 + 1)))
+        for number, query in enumerate(queries):
+            self.assertEqual([sent(query) for _ in range(4)][2:], [b"y" * (number % 7 + 1)] * 2)
+
+    def test_templates_of_queries_of_each_length(self):
+        for length, wanted in ((LONGEST - 1, "xxyy"), (LONGEST, "xxyy"), (LONGEST + 1, "xxxx"), (2 * LONGEST, "xxxx")):
+            for steady in (False, True):
+                query = (b" 2 1 5 %d" % steady).ljust(length)
+                with self.subTest(length=length, steady=steady):
+                    self.assertEqual(self.letters(query, 4, steady=steady), wanted)
+                    # Of a longer one rows have a template of their own, from the second on.
+                    rows = b"yyyy" if length <= LONGEST else b"xyyy"
+                    for value in (1, "a" * KEPT):
+                        self.assertEqual(b"".join(sent_rows(query, [(value,)] * 4, steady=steady)), rows)
+
+    def test_a_template_that_another_query_takes_the_place_of(self):
+        """Rows hold the template of their query, whatever is sent between two of them."""
+        query = b" 2 3 8"
+
+        def rows():
+            yield (1,)
+            for other in range(4_000):
+                self.letters(b" 2 1 8 %d" % other, 3)
+            yield (2,)
+            yield ("a" * KEPT,)
+
+        self.letters(query, 3)
+        self.assertEqual(sent_rows(query, rows()), [b"yyy"] * 3)
+        self.assertEqual(self.letters(query, 1), "xxx")
+
+    def test_templates_without_memory(self):
+        self.addCleanup(setattr, TABLES_REFUSED, "value", False)
+        for query in (b" 2 1 6", b" 2 1 6".ljust(LONGEST + 1)):
+            TABLES_REFUSED.value = True
+            self.assertEqual(self.letters(query, 5), "xxxxx")
+            self.assertEqual(sent_rows(query, [(1,)] * 5), [b"x"] * 5)
+            TABLES_REFUSED.value = False
+            self.assertEqual(sent_rows(query, [(1,)] * 5)[3:], [b"y"] * 2)
+        self.refusing(0)
+        self.assertEqual(self.letters(b" 2 1 6", 2), "yy")
+        with self.assertRaises(OutOfMemoryError):
+            sent(b" 2 70000 6")
+
+    def test_refusals_by_a_template(self):
+        for number, kind in ((1, OutOfMemoryError), (8, mysql_params.MixedError), (12, mysql_params.MarkCountError), (20, RuntimeError)):
+            query = b" %d 7" % number
+            for call in (lambda: sent(query), lambda: sent(query, mode=True), lambda: sent_rows(query, [(1,)])):
+                for _ in range(4):
+                    with self.subTest(number=number), self.assertRaises(kind):
+                        call()
+            with self.assertRaises(kind):
+                sent_rows(query.ljust(LONGEST + 1), [(1,)] * 3)
 
     def test_refusals_by_the_archive(self):
         for call in (lambda: bind("1"), lambda: names("1"), lambda: bind_rows("1", [[1]]), lambda: Template("1")):

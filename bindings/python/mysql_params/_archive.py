@@ -100,7 +100,7 @@ class Tables:
 
 
 TABLES = Tables(128, 1 << 23, 1 << 12)
-"""The tables by which bind and execute bind. A short query is walked in less time than its table is found."""
+"""The tables by which bind and bind_form bind. A short query is walked in less time than its table is found."""
 os.register_at_fork(after_in_child=TABLES.forget)
 
 

@@ -99,9 +99,9 @@ def executemany(
     UPDATE without places. Of another query each row's text is sent by itself. The cursor's rowcount is the last text's; for
     each row's lastrowid take execute.
 
-    The query is parsed once for many rows, and the connection is asked before the first. All are bound before the first text
-    is sent: if one is refused, nothing was sent, and the refusal's attribute `row` is its number from 0. Each row has the literals
-    that execute gives it, and is refused as there.
+    A query that is ASCII without a backslash is parsed once for many rows, and the connection is asked before the first. All are
+    bound before the first text is sent: if one is refused, nothing was sent, and the refusal's attribute `row` is its number from
+    0. Each row has the literals that execute gives it, and is refused as there. A query that isn't portable is refused before.
 
     A query that is no SELECT, INSERT, UPDATE, DELETE or REPLACE may change the session. Then the connection is asked before
     each text: if one before it changed the mode or a character set, raise SessionError.

@@ -11,7 +11,6 @@ from typing import Any, NamedTuple, Optional, Union
 from . import _archive, _form, _native
 from ._drivers import Signs, encoding_of, makers, may_rewrite, signs_of
 from .errors import ArgumentTypeError, DataError, Error, ProgrammingError, QueryDecodeError, UnportableError
-from .portable import Unportable
 
 _QUESTION = (
     "SELECT @@sql_mode AS m, @@character_set_client AS c, @@character_set_connection AS n, @@max_allowed_packet AS p"
@@ -200,26 +199,13 @@ def forget_after(connection: Any, query: bytes) -> None:
         ask_again(connection)
 
 
-def _unportable(query: bytes, mode: bool) -> Optional[Unportable]:
-    """Return the first construct of a query, as first_unportable."""
-    return _archive.unportable(*_native.first_unportable(query, mode))
-
-
-_LONGEST_KEPT = 4096
-"""The longest query whose construct is kept."""
-
-
-@functools.lru_cache(maxsize=1024)
-def _kept_unportable(query: bytes, mode: bool) -> Optional[Unportable]:
-    """Return the same, and keep it."""
-    return _unportable(query, mode)
-
-
 def told_for(connection: Any, query: bytes, always_ask: bool) -> Told:
-    """Return what a connection answered. Raise UnportableError for a query that isn't portable in its mode."""
+    """Return what a connection answered, to send rows of a query. Raise UnportableError for one that isn't portable in its mode.
+
+    So no row is told for that, and none is wanted. Each text is refused for it too.
+    """
     told = _told(connection, always_ask)
-    mode = told.no_backslash_escape
-    found = _kept_unportable(query, mode) if len(query) <= _LONGEST_KEPT else _unportable(query, mode)
+    found = _archive.unportable(*_native.first_unportable(query, told.no_backslash_escape))
     if found is not None:
         raise UnportableError(found.position, found.construct)
     return told
@@ -230,7 +216,7 @@ def _bound(
 ) -> bytes:
     """Return the text to send over a connection of a driver."""
     form, is_fragments = _native.written(params, zone, True)
-    told = told_for(connection, query, always_ask)
+    told = _told(connection, always_ask)
     text = _native.bind_written(query, form, told.no_backslash_escape, is_fragments, steady)
     refusal = told.refusal(text)
     if refusal is not None:

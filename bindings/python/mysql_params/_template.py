@@ -12,7 +12,7 @@ from . import _archive, _native
 class Template:
     """A query whose names and marks are found once, to bind it many times: it gives what bind gives.
 
-    It keeps a copy of the query, and nothing changes it, so that threads may bind it at once. bind and execute keep the places
+    It keeps a copy of the query, and nothing changes it, so that threads may bind it at once. bind and bind_form keep the places
     of the last 128 queries of 4 KiB or more, up to 8 MiB in all, by themselves: for these a template spares only the look
     for what is kept.
 

@@ -43,20 +43,10 @@ static bytes query_of(const question *question)
     return query;
 }
 
-/* Whether a query is ASCII without a backslash. */
-static bool is_steady(bytes query)
+bool take_call_to_send(PyObject *wants_steady, enum call *call)
 {
-    for (size_t i = 0; i < query.len; i++)
-        if (query.at[i] >= 128 || query.at[i] == '\\')
-            return false;
-    return true;
-}
-
-bool take_call_to_send(PyObject *query, PyObject *wants_steady, enum call *call)
-{
-    const question question = {.query = query};
     int wanted = PyObject_IsTrue(wants_steady);
-    *call = wanted > 0 ? CALL_ANYWHERE : is_steady(query_of(&question)) ? CALL_GUARDED : CALL_BIND;
+    *call = wanted > 0 ? CALL_ANYWHERE : CALL_FOR_CONNECTION;
     return wanted >= 0;
 }
 
@@ -71,12 +61,24 @@ static int32_t ask_in_mode(const question *q, bytes query, uint8_t *room, size_t
     return mysql_params_bind_wide(query.at, query.len, q->form, q->form_len, q->mode, room, len, report);
 }
 
-/* Asks for guarded literals, and for plain ones if a name isn't steady. */
-static int32_t ask_guarded(const question *q, bytes query, uint8_t *room, size_t len, mysql_params_report *report)
+/* Asks for what is sent over a connection in a mode, by the template if there is one. */
+static int32_t ask_for_connection(const question *q, bytes query, uint8_t *room, size_t len, mysql_params_report *report)
 {
-    int32_t number =
-        mysql_params_bind_fragments_guarded_wide(query.at, query.len, q->form, q->form_len, q->mode, room, len, report);
-    return number == MYSQL_PARAMS_UNSTEADY_FRAGMENT ? ask_in_mode(q, query, room, len, report) : number;
+    if (q->made != NULL)
+        return mysql_params_template_bind_for_connection(q->made, q->form, q->form_len, q->is_fragments, q->mode, room, len,
+                                                         report);
+    return mysql_params_bind_for_connection_wide(query.at, query.len, q->form, q->form_len, q->is_fragments, q->mode, room, len,
+                                                 report);
+}
+
+/* Asks for what is for any mode and server, by the template if there is one. */
+static int32_t ask_anywhere(const question *q, bytes query, uint8_t *room, size_t len, mysql_params_report *report)
+{
+    if (q->is_fragments)
+        return mysql_params_bind_fragments_anywhere_wide(query.at, query.len, q->form, q->form_len, room, len, report);
+    if (q->made != NULL)
+        return mysql_params_template_bind_anywhere(q->made, q->form, q->form_len, room, len, report);
+    return mysql_params_bind_anywhere_wide(query.at, query.len, q->form, q->form_len, room, len, report);
 }
 
 /* Asks the archive. It calls nothing of Python. */
@@ -88,11 +90,9 @@ static int32_t ask(const question *q, bytes query, uint8_t *room, size_t len, my
     case CALL_BOTH_MODES:
         return mysql_params_bind_in_both_modes_wide(query.at, query.len, q->form, q->form_len, room, len, report);
     case CALL_ANYWHERE:
-        if (q->is_fragments)
-            return mysql_params_bind_fragments_anywhere_wide(query.at, query.len, q->form, q->form_len, room, len, report);
-        return mysql_params_bind_anywhere_wide(query.at, query.len, q->form, q->form_len, room, len, report);
-    case CALL_GUARDED:
-        return ask_guarded(q, query, room, len, report);
+        return ask_anywhere(q, query, room, len, report);
+    case CALL_FOR_CONNECTION:
+        return ask_for_connection(q, query, room, len, report);
     case CALL_BIND:
         break;
     }
@@ -123,7 +123,7 @@ PyObject *refuse(const native_state *state, const question *question, int32_t nu
     PyObject *told = report_of(report);
     if (told == NULL)
         return NULL;
-    bool has_mode = question->call == CALL_BIND || question->call == CALL_GUARDED;
+    bool has_mode = question->call == CALL_BIND || question->call == CALL_FOR_CONNECTION;
     PyObject *without_escapes = has_mode && question->mode ? Py_True : Py_False;
     PyObject *error = PyObject_CallFunction(state->handed[HANDED_REFUSAL], "iOOy#O", (int)number, told, question->query,
                                             (const char *)question->form, (Py_ssize_t)question->form_len, without_escapes);
@@ -140,7 +140,7 @@ PyObject *refuse_memory(const native_state *state)
     PyObject *no_query = PyBytes_FromStringAndSize("", 0);
     if (no_query == NULL)
         return NULL;
-    const question of_memory = {CALL_NAMES, no_query, NULL, &no_form, 0, false, false};
+    const question of_memory = {.call = CALL_NAMES, .query = no_query, .form = &no_form};
     const mysql_params_report report = {0};
     refuse(state, &of_memory, MYSQL_PARAMS_OUT_OF_MEMORY, &report);
     Py_DECREF(no_query);
@@ -180,6 +180,12 @@ static PyObject *long_answer(const native_state *state, const question *question
     return answer;
 }
 
+/* Whether a question is one for which a template of its query isn't walked. */
+static bool takes_template(const question *question)
+{
+    return !question->is_fragments && (question->call == CALL_FOR_CONNECTION || question->call == CALL_ANYWHERE);
+}
+
 PyObject *answer(const native_state *state, const question *question)
 {
     bytes query = query_of(question);
@@ -187,8 +193,12 @@ PyObject *answer(const native_state *state, const question *question)
     size_t guess = query.len + literals + MORE_ROOM;
     if (guess > KEPT_ROOM)
         return long_answer(state, question, guess);
+    /* While the GIL is held nothing takes the place of a template that is kept. */
+    struct question held = *question;
+    if (held.made == NULL && takes_template(question))
+        held.made = kept_template(state, question->query);
     mysql_params_report report = {0};
-    int32_t number = ask(question, query, state->room, KEPT_ROOM, &report);
+    int32_t number = ask(&held, query, state->room, KEPT_ROOM, &report);
     if (number == MYSQL_PARAMS_ROOM)
         return long_answer(state, question, report.len);
     if (number != MYSQL_PARAMS_DONE)

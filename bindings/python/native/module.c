@@ -1,8 +1,6 @@
 /* module.c: the functions of the module mysql_params._native, and what it is handed by its package. */
 #include "native.h"
 
-#include "mysql_params_form.h"
-
 #include <stdlib.h>
 
 static const char *const HANDED_NAMES[HANDED_COUNT] = {
@@ -71,7 +69,7 @@ static PyObject *native_keep_from(PyObject *module, PyObject *length)
 static bool begin_writing(const native_state *state, form *form, PyObject *zone, enum level level, writer *writer)
 {
     form_begin(form);
-    *writer = (struct writer){state, form, zone, level};
+    *writer = (struct writer){state, form, zone, level, NULL};
     if (zone == Py_None)
         return true;
     PyObject *checked = PyObject_CallFunctionObjArgs(state->handed[HANDED_ZONE_OF], zone, NULL);
@@ -162,46 +160,37 @@ static PyObject *native_bind(PyObject *module, PyObject *arguments)
     return text;
 }
 
-/* The answer to a question about a query, which has a table if it is kept of it, with a form that is handed in and a mode. */
-static PyObject *answer_about(const native_state *state, question *question, PyObject *query, PyObject *form, PyObject *mode)
-{
-    PyObject *kept = NULL, *text = NULL;
-    if (ask_about(state, question, query, mode, &kept))
-        text = answer_of_form(state, question, form, mode);
-    Py_XDECREF(question->query);
-    Py_XDECREF(kept);
-    return text;
-}
-
 /* bind_form(query, form, mode) */
 static PyObject *native_bind_form(PyObject *module, PyObject *arguments)
 {
-    PyObject *taken[3];
+    PyObject *taken[3], *kept = NULL, *text = NULL;
     native_state *state = state_of(module);
     question question = {.call = CALL_BIND};
     if (state == NULL || !take_arguments(arguments, 3, taken))
         return NULL;
-    return answer_about(state, &question, taken[0], taken[1], taken[2]);
+    if (ask_about(state, &question, taken[0], taken[2], &kept))
+        text = answer_of_form(state, &question, taken[1], taken[2]);
+    Py_XDECREF(question.query);
+    Py_XDECREF(kept);
+    return text;
 }
 
 /* bind_written(query, form, mode, is_fragments, steady): the text to send of a form that `written` made, with steady literals or
- * with guarded ones */
+ * with those for a connection in the mode */
 static PyObject *native_bind_written(PyObject *module, PyObject *arguments)
 {
     PyObject *taken[5];
     native_state *state = state_of(module);
-    question question = {.call = CALL_BIND};
+    question question = {.call = CALL_FOR_CONNECTION};
     if (state == NULL || !take_arguments(arguments, 5, taken))
         return NULL;
     if (!PyBytes_Check(taken[0])) {
         PyErr_SetString(PyExc_TypeError, "a query of bytes is wanted");
         return NULL;
     }
-    if (!take_call_to_send(taken[0], taken[4], &question.call))
+    if (!take_call_to_send(taken[4], &question.call))
         return NULL;
     question.is_fragments = taken[3] == Py_True;
-    if (question.call == CALL_BIND)
-        return answer_about(state, &question, taken[0], taken[1], taken[2]);
     question.query = taken[0];
     return answer_of_form(state, &question, taken[1], taken[2]);
 }
@@ -346,7 +335,8 @@ static int begin(PyObject *module)
             return -1;
     }
     state->room = calloc(KEPT_ROOM, 1);
-    if (state->room == NULL) {
+    state->kept = kept_begin();
+    if (state->room == NULL || state->kept == NULL) {
         PyErr_NoMemory();
         return -1;
     }
@@ -383,6 +373,8 @@ static void give_back(void *module)
     Py_CLEAR(state->table_type);
     free(state->room);
     state->room = NULL;
+    kept_end(state->kept);
+    state->kept = NULL;
 }
 
 static PyModuleDef_Slot slots[] = {{Py_mod_exec, begin}, {0, NULL}};

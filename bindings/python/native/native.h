@@ -21,7 +21,7 @@
 #define PY_SSIZE_T_CLEAN
 #include <Python.h>
 
-#include "mysql_params.h"
+#include "mysql_params_form.h"
 
 #include <stdbool.h>
 #include <stdint.h>
@@ -79,12 +79,29 @@ enum attribute {
 /* How long the room is that the module keeps for answers. The GIL is let go around a call whose text may be longer. */
 enum { KEPT_ROOM = 1 << 16 };
 
+/* How many queries have a template that is kept, and of how many bytes they are at most, so that what is kept stays small. */
+enum { KEPT_QUERIES = 256, LONGEST_KEPT = 2048 };
+
+/* A template, and how many hold it: its slot, and calls that let others run. The number is changed with the GIL alone. */
+typedef struct held_template {
+    mysql_params_template *made; /* owned */
+    size_t holders;
+} held_template;
+
+/* A slot for the queries whose hashes end alike. */
+typedef struct kept_query {
+    Py_hash_t hash;      /* of the last query that was given without a template */
+    unsigned times;      /* how often it was given so, one time after another */
+    held_template *held; /* held; of a query that was given often enough, or null */
+} kept_query;
+
 /* The module's own. */
 typedef struct native_state {
     PyObject *handed[HANDED_COUNT];         /* owned */
     PyObject *attributes[ATTRIBUTE_COUNT];  /* owned */
     PyTypeObject *table_type;               /* owned */
     uint8_t *room;                          /* owned, KEPT_ROOM bytes; used with the GIL alone, and not across a call of Python */
+    kept_query *kept;                       /* owned, KEPT_QUERIES of them; used as the room, see kept.c */
     Py_ssize_t least_kept;                  /* how long a query is at least of which the package keeps a table */
 } native_state;
 
@@ -143,12 +160,23 @@ enum {
 /* Where a value goes: where places take values alone, to a place that takes more, or to an item of a list or a row. */
 enum level { LEVEL_VALUES, LEVEL_PLACES, LEVEL_ITEMS };
 
+/* The first names of the row before, whose bytes serve the next row too if that has the same objects as names. */
+enum { NAMES_OF_ROW = 32 };
+typedef struct row_names {
+    PyObject *names[NAMES_OF_ROW]; /* held; each a str, or null */
+    PyObject *bytes[NAMES_OF_ROW]; /* held; theirs */
+} row_names;
+
+/* Lets them go. */
+void row_names_end(row_names *names);
+
 /* What values are written by. */
 typedef struct writer {
     const native_state *state; /* borrowed */
     form *form;                /* borrowed */
     PyObject *zone;            /* borrowed; the zone that datetimes with one are shown in, or None */
     enum level level;
+    row_names *before; /* borrowed; null for other parameters than those of rows */
 } writer;
 
 /* The place that a value is for, as messages tell it. */
@@ -199,7 +227,7 @@ PyObject *table_new(const native_state *state, PyObject *query, bool mode);
 enum call {
     CALL_NAMES,
     CALL_BIND,
-    CALL_GUARDED, /* of a steady query: guarded literals for the mode, and plain ones if a name isn't steady */
+    CALL_FOR_CONNECTION, /* of the text to send over a connection in the mode */
     CALL_ANYWHERE,
     CALL_BOTH_MODES
 };
@@ -211,12 +239,32 @@ typedef struct question {
     const uint8_t *form; /* borrowed */
     size_t form_len;
     bool is_fragments;
-    bool mode; /* without backslash escapes */
+    bool mode;                         /* without backslash escapes */
+    const mysql_params_template *made; /* borrowed; the query's, of wide names; if null, one that is kept may be taken */
 } question;
 
-/* Takes what gives the text to send of a query, which is bytes: the call for steady literals if these are wanted, else that for
- * guarded ones if the query is steady, and else that for plain ones. */
-bool take_call_to_send(PyObject *query, PyObject *wants_steady, enum call *call);
+/* Takes the call that gives the text to send: that for steady literals if these are wanted. */
+bool take_call_to_send(PyObject *wants_steady, enum call *call);
+
+/* The slots for templates that are kept, without any; null without an exception if there is no memory. */
+kept_query *kept_begin(void);
+
+/* Gives the slots back, and lets their templates go; does nothing to null. */
+void kept_end(kept_query *kept);
+
+/* A template of a query, which is bytes, held by the caller; null without an exception if there is no memory. The GIL is let go for
+ * a query that is too long to be kept. */
+held_template *new_template(PyObject *query);
+
+/* Lets a template go, which is given back if no one else holds it; does nothing to null. */
+void let_template_go(held_template *held);
+
+/* The template that is kept of a query, held by the caller, or null without an exception. */
+held_template *hold_kept(const native_state *state, PyObject *query);
+
+/* The template that is kept of a query that is given once more, or null without an exception. It may be given back by the next call
+ * or when the GIL is let go. */
+const mysql_params_template *kept_template(const native_state *state, PyObject *query);
 
 /* The whole answer to a question, as bytes. */
 PyObject *answer(const native_state *state, const question *question);

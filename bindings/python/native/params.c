@@ -167,10 +167,38 @@ static PyObject *name_of(const native_state *state, PyObject *name, Py_ssize_t n
     return PyObject_CallFunction(state->handed[HANDED_NAME], "On", name, number);
 }
 
+void row_names_end(row_names *names)
+{
+    for (int i = 0; i < NAMES_OF_ROW; i++) {
+        Py_CLEAR(names->names[i]);
+        Py_CLEAR(names->bytes[i]);
+    }
+}
+
+/* The same by the names of the row before. A str doesn't change, so that the same one has the same bytes. */
+static PyObject *name_in_row(const writer *writer, PyObject *name, Py_ssize_t number)
+{
+    row_names *before = writer->before;
+    if (before == NULL || number >= NAMES_OF_ROW || Py_TYPE(name) != &PyUnicode_Type)
+        return name_of(writer->state, name, number);
+    if (before->names[number] != name) {
+        PyObject *own = name_of(writer->state, name, number);
+        if (own == NULL)
+            return NULL;
+        Py_XDECREF(before->names[number]);
+        Py_XDECREF(before->bytes[number]);
+        Py_INCREF(name);
+        before->names[number] = name;
+        before->bytes[number] = own;
+    }
+    Py_INCREF(before->bytes[number]);
+    return before->bytes[number];
+}
+
 /* Appends a parameter with its name. */
 static bool write_named(const writer *writer, PyObject *name, PyObject *value, Py_ssize_t number)
 {
-    PyObject *own = name_of(writer->state, name, number);
+    PyObject *own = name_in_row(writer, name, number);
     char *at;
     Py_ssize_t len;
     bool done = own != NULL && PyBytes_AsStringAndSize(own, &at, &len) == 0;

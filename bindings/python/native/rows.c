@@ -7,8 +7,9 @@
  * cache with their texts, and many enough for the GIL to be let go. */
 enum { MOST_FORMS = 1 << 15, MOST_QUERIES = 1 << 18 };
 
-/* After so many rows that are bound by themselves handlers of signals and other threads run. */
-enum { ALONE_AT_ONCE = 256 };
+/* After so many rows that are bound by themselves handlers of signals and other threads run. A row counts once more for each so many
+ * bytes of its form. */
+enum { ALONE_AT_ONCE = 256, FORM_AT_ONCE = 1 << 10 };
 
 /* What a text has beside its query and its literals: its length. */
 enum { BESIDE_TEXT = 9 };
@@ -20,18 +21,20 @@ typedef struct binder {
     PyObject *texts;           /* borrowed, a list: those of the rows that are bound */
     enum call call;            /* what gives the text of a row */
     bool mode;
-    form forms; /* owned; of the rows that wait, each as a length-encoded string */
-    size_t count;  /* rows that wait */
-    size_t most;   /* of so many at most */
-    size_t alone;  /* rows that were bound by themselves */
-    uint8_t *room; /* owned, of calloc */
+    held_template *held; /* held; the query's, or null */
+    form forms;          /* owned; of the rows that wait, each as a length-encoded string */
+    size_t count;        /* rows that wait */
+    size_t most;         /* of so many at most */
+    size_t alone;        /* rows that were bound by themselves since others ran */
+    uint8_t *room;       /* owned, of calloc */
     size_t room_len;
 } binder;
 
 /* What is asked for the row whose form stands somewhere. */
 static question question_of(const binder *binder, const uint8_t *form, size_t len, bool is_fragments)
 {
-    question question = {binder->call, binder->query, NULL, form, len, is_fragments, binder->mode};
+    const mysql_params_template *made = binder->held == NULL ? NULL : binder->held->made;
+    question question = {binder->call, binder->query, NULL, form, len, is_fragments, binder->mode, made};
     return question;
 }
 
@@ -68,42 +71,18 @@ static bool append_text(const binder *binder, PyObject *text)
     return status == 0;
 }
 
-/* The mode in which rows are bound together. A plain literal without escapes is the guarded one of either mode, unless a backslash
- * stands in it; one with escapes has a backslash for each quote too. */
-static bool mode_of_rows(const binder *binder)
+/* Appends the texts of which an answer is a row. */
+static bool append_texts(const binder *binder, size_t written)
 {
-    return binder->call == CALL_GUARDED || binder->mode;
-}
-
-/* The guarded text of a row, of which the text with plain literals stands there. */
-static PyObject *guarded_text(const binder *binder, const uint8_t *text, size_t text_len, const uint8_t *form, size_t form_len)
-{
-    if (memchr(text, '\\', text_len) == NULL)
-        return PyBytes_FromStringAndSize((const char *)text, (Py_ssize_t)text_len);
-    question question = question_of(binder, form, form_len, false);
-    return answer(binder->state, &question);
-}
-
-/* Appends the texts of which an answer is a row, for the rows whose forms stand there. */
-static bool append_texts(const binder *binder, size_t written, const uint8_t *forms, size_t len)
-{
-    size_t begin, end, form_begin, form_end;
+    size_t begin, end;
     for (size_t at = 0; at < written; at += end) {
         if (!next_string(binder->room + at, written - at, &begin, &end)) {
             PyErr_SetString(PyExc_RuntimeError, "the answer of the archive is no row of strings");
             return false;
         }
-        const uint8_t *text = binder->room + at + begin;
-        if (binder->call != CALL_GUARDED) {
-            if (!append_text(binder, PyBytes_FromStringAndSize((const char *)text, (Py_ssize_t)(end - begin))))
-                return false;
-            continue;
-        }
-        if (!next_form(forms, len, &form_begin, &form_end) ||
-            !append_text(binder, guarded_text(binder, text, end - begin, forms + form_begin, form_end - form_begin)))
+        const char *text = (const char *)binder->room + at + begin;
+        if (!append_text(binder, PyBytes_FromStringAndSize(text, (Py_ssize_t)(end - begin))))
             return false;
-        forms += form_end;
-        len -= form_end;
     }
     return true;
 }
@@ -126,7 +105,7 @@ static int32_t bind_some(binder *binder, const uint8_t *forms, size_t len, mysql
     const uint8_t *query = (const uint8_t *)PyBytes_AsString(binder->query);
     size_t query_len = (size_t)PyBytes_Size(binder->query);
     PyThreadState *save = binder->room_len > KEPT_ROOM ? PyEval_SaveThread() : NULL;
-    int32_t number = mysql_params_bind_rows_wide(query, query_len, forms, len, mode_of_rows(binder), binder->room,
+    int32_t number = mysql_params_bind_rows_wide(query, query_len, forms, len, binder->mode, binder->room,
                                                  binder->room_len, rows, report);
     if (save != NULL)
         PyEval_RestoreThread(save);
@@ -158,7 +137,7 @@ static bool bind_forms(binder *binder, size_t len)
                          binder->room_len);
             return false;
         }
-        if (!append_texts(binder, rows.written, binder->forms.bytes + read, rows.read))
+        if (!append_texts(binder, rows.written))
             return false;
         if (number == MYSQL_PARAMS_DONE)
             return true;
@@ -215,16 +194,28 @@ static void bind_before(binder *binder, size_t len, bool is_of_row)
     PyErr_Restore(kind, fault, trace);
 }
 
-/* Lets handlers of signals and other threads run, once in a while. */
-static bool let_others_run(binder *binder)
+/* Lets handlers of signals and other threads run, once in a while, after a row whose form has so many bytes. Python does so where a
+ * function of its own begins, if any wait. One that let the GIL go and took it again would mostly have it before they do. */
+static bool let_others_run(binder *binder, size_t form_len)
 {
-    if (++binder->alone % ALONE_AT_ONCE != 0)
+    binder->alone += 1 + form_len / FORM_AT_ONCE;
+    if (binder->alone < ALONE_AT_ONCE)
         return true;
-    if (PyErr_CheckSignals() != 0)
-        return false;
-    Py_BEGIN_ALLOW_THREADS
-    Py_END_ALLOW_THREADS
-    return true;
+    binder->alone = 0;
+    PyObject *begun = PyObject_CallFunctionObjArgs(binder->state->handed[HANDED_FLAG], Py_True, NULL);
+    Py_XDECREF(begun);
+    return begun != NULL;
+}
+
+/* Holds the template that is kept of a query that is sent, or makes one for the second row of a query that is too long to be kept. If
+ * there is no memory, rows do without. */
+static void hold_template(binder *binder)
+{
+    if (binder->held != NULL || binder->call == CALL_BIND)
+        return;
+    binder->held = hold_kept(binder->state, binder->query);
+    if (binder->held == NULL && PyBytes_Size(binder->query) > LONGEST_KEPT && PyList_Size(binder->texts) == 1)
+        binder->held = new_template(binder->query);
 }
 
 /* Binds a row by itself, whose form stands behind those that wait. */
@@ -232,14 +223,16 @@ static bool bind_alone(binder *binder, size_t begin)
 {
     if (!bind_waiting(binder, begin))
         return false;
-    const uint8_t *at = binder->forms.bytes + begin + 1;
-    question question = question_of(binder, at, binder->forms.len - begin - 1, binder->forms.is_fragments);
+    hold_template(binder);
+    size_t len = binder->forms.len - begin - 1;
+    question question = question_of(binder, binder->forms.bytes + begin + 1, len, binder->forms.is_fragments);
     bool done = append_text(binder, answer(binder->state, &question));
     binder->forms.len = 0;
-    return done && let_others_run(binder);
+    return done && let_others_run(binder, len);
 }
 
-/* Has a row wait, and binds those that wait if they are many. What no call for many rows binds is bound by itself. */
+/* Has a row wait, and binds those that wait if they are many. What no call for many rows binds is bound by itself, as is all that is
+ * sent. */
 static bool add_row(binder *binder, const writer *writer, PyObject *row)
 {
     size_t begin = binder->forms.len;
@@ -250,7 +243,7 @@ static bool add_row(binder *binder, const writer *writer, PyObject *row)
         bind_before(binder, begin, is_of_parameters());
         return false;
     }
-    if (binder->forms.is_fragments || binder->call == CALL_ANYWHERE)
+    if (binder->forms.is_fragments || binder->call != CALL_BIND)
         return bind_alone(binder, begin);
     if (!form_enclose(&binder->forms, begin))
         return false;
@@ -282,8 +275,8 @@ static bool bind_all(binder *binder, const writer *writer, PyObject *rows)
 }
 
 /* Binds rows: a query, which is bytes, the rows, the mode, a zone, whether the texts are to be sent, with steady literals or with
- * guarded ones, and a list of texts, which gets those of the rows up to the first that is refused. What is sent takes more than
- * values. */
+ * those for a connection in the mode, and a list of texts, which gets those of the rows up to the first that is refused. What is sent
+ * takes more than values. */
 PyObject *native_bind_rows(PyObject *module, PyObject *arguments)
 {
     PyObject *taken[7];
@@ -296,16 +289,19 @@ PyObject *native_bind_rows(PyObject *module, PyObject *arguments)
         return NULL;
     }
     bool is_sent = taken[4] == Py_True;
-    if (is_sent && !take_call_to_send(taken[0], taken[5], &binder.call))
+    if (is_sent && !take_call_to_send(taken[5], &binder.call))
         return NULL;
     binder.query = taken[0];
     binder.texts = taken[6];
     binder.most = 1 + MOST_QUERIES / ((size_t)PyBytes_Size(taken[0]) + 1);
     form_begin(&binder.forms);
-    const writer writer = {state, &binder.forms, taken[3], is_sent ? LEVEL_PLACES : LEVEL_VALUES};
+    row_names names = {0};
+    const writer writer = {state, &binder.forms, taken[3], is_sent ? LEVEL_PLACES : LEVEL_VALUES, &names};
     bool done = bind_all(&binder, &writer, taken[1]);
+    row_names_end(&names);
     form_free(&binder.forms);
     free(binder.room);
+    let_template_go(binder.held);
     if (!done)
         return NULL;
     Py_RETURN_NONE;
@@ -359,7 +355,7 @@ PyObject *native_row_items(PyObject *module, PyObject *arguments)
         return NULL;
     form form;
     form_begin(&form);
-    const writer writer = {state, &form, taken[2], LEVEL_ITEMS};
+    const writer writer = {state, &form, taken[2], LEVEL_ITEMS, NULL};
     PyObject *made = NULL;
     if (write_items(&writer, taken[0], &place)) {
         size_t items = form.bytes[0] | (size_t)form.bytes[1] << 8 | (size_t)form.bytes[2] << 16 | (size_t)form.bytes[3] << 24;

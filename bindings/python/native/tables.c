@@ -44,7 +44,7 @@ static bool fill(const native_state *state, table *table)
             return refuse_memory(state) != NULL;
         number = make(table, &report);
     }
-    const question question = {CALL_BIND, table->query, NULL, &no_form, 0, false, table->mode};
+    const question question = {.call = CALL_BIND, .query = table->query, .form = &no_form, .mode = table->mode};
     if (number != MYSQL_PARAMS_DONE)
         return refuse(state, &question, number, &report) != NULL;
     table->size = PyBytes_Size(table->query) + table->count * (Py_ssize_t)sizeof(mysql_params_place);
