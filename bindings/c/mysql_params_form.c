@@ -1282,7 +1282,8 @@ int32_t mysql_params_template_bind_for_connection(const mysql_params_template *m
                                                        made->anywhere_len, form, form_len, no_backslash_escape, room,
                                                        room_len, report);
     if (made->is_plain && !has_fragments && no_backslash_escape == made->no_backslash_escape)
-        return mysql_params_template_bind(made, form, form_len, room, room_len, report);
+        return mysql_params_bind_template_wide(query, made->query_len, &made->head, places_of(made), made->places_len, form,
+                                               form_len, no_backslash_escape, room, room_len, report);
     return mysql_params_bind_for_connection_wide(query, made->query_len, form, form_len, has_fragments, no_backslash_escape,
                                                  room, room_len, report);
 }
