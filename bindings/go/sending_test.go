@@ -13,7 +13,7 @@ import (
 	"time"
 )
 
-// played is a driver, and a server of which each connection has this session. It keeps what it is sent.
+// played is a driver, and a server whose connections all have this mode and these character sets. It keeps what it is sent.
 type played struct {
 	sqlMode, client, own string
 	stale                int // questions that find their connection closed
