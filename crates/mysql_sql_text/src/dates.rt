@@ -29,6 +29,7 @@ pub struct TimeFields {
 }
 
 /// The length of the literal of a date.
+#[inline]
 pub fn date_len(date: DateFields) -> u128
     ensures { result ≡ length (date_literal date) }
 {
@@ -44,6 +45,7 @@ pub fn date_len(date: DateFields) -> u128
 }
 
 /// The length of the literal of a time.
+#[inline]
 pub fn time_len(time: TimeFields) -> u128
     ensures { result ≡ length (time_literal time) }
 {
@@ -74,6 +76,7 @@ fn two_digits_len(number: u8) -> usize
 }
 
 /// Fills the slice with the literal of a date. The slice must have exactly the length `date_len`.
+#[inline]
 pub fn fill_date(buffer: &mut [u8], date: DateFields)
     requires { length buffer.old ≡ length (date_literal date) }
     ensures { buffer.new ≡ date_literal date }
@@ -122,6 +125,7 @@ fn append_day(buffer: &mut [u8], at: usize, date: DateFields) -> usize
 }
 
 /// Fills the slice with the literal of a time. The slice must have exactly the length `time_len`.
+#[inline]
 pub fn fill_time(buffer: &mut [u8], time: TimeFields)
     requires { length buffer.old ≡ length (time_literal time) }
     ensures { buffer.new ≡ time_literal time }

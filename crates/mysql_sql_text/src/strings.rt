@@ -6,6 +6,7 @@ use crate::escapes::{append_escaped, escaped_len};
 use crate::utf8::is_utf8;
 
 /// The length of the literal of bytes.
+#[inline]
 pub fn bytes_literal_len(bytes: &[u8], no_backslash_escape: bool) -> u128
     ensures { result ≡ length (bytes_literal no_backslash_escape bytes.now) }
 {
@@ -18,6 +19,7 @@ pub fn bytes_literal_len(bytes: &[u8], no_backslash_escape: bool) -> u128
 
 /// Fills the slice with the literal of bytes: a string if they are UTF-8, or else a hexadecimal
 /// literal. The slice must have exactly the length `bytes_literal_len`.
+#[inline]
 pub fn fill_bytes_literal(buffer: &mut [u8], bytes: &[u8], no_backslash_escape: bool)
     requires { length buffer.old ≡ length (bytes_literal no_backslash_escape bytes.now) }
     ensures { buffer.new ≡ bytes_literal no_backslash_escape bytes.now }
@@ -36,6 +38,7 @@ pub fn fill_bytes_literal(buffer: &mut [u8], bytes: &[u8], no_backslash_escape: 
 }
 
 /// The length of bytes between quotes, escaped.
+#[inline]
 pub fn string_len(bytes: &[u8], no_backslash_escape: bool) -> u128
     ensures exact { result ≡ length (quoted (escaped no_backslash_escape bytes.now)) }
     ensures few { result ≤ 2 + 2 * length bytes.now }

@@ -170,6 +170,8 @@ impl<'de> MyDeserialize<'de> for ValueDeserializer<BinValue> {
 
     ghost takes_memory = { λ ctx bytes. ReadsBytes (read_binary ctx.0 (is_unsigned ctx.1) bytes) };
 
+    // It is inlined, like `read_text_cells`.
+    #[inline(always)]
     fn deserialize(
         alloc: Global,
         ctx: (ColumnType, ColumnFlags),
@@ -191,6 +193,7 @@ impl<'de> MyDeserialize<'de> for ValueDeserializer<BinValue> {
 
 // The value at the front of the buffer, read by the type of its column. After an error, some of the
 // buffer's bytes may have been taken off.
+#[inline(always)]
 fn eat_binary(
     alloc: Global,
     column: ColumnType,

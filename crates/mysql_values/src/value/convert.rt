@@ -95,6 +95,7 @@ pub trait FromValue: Sized {
     }
 
     /// Converts a value, or returns the value in the error.
+    #[inline]
     fn from_value_opt(v: Value) -> Result<Self, FromValueError>
         ensures { ConvertsOrHandsBack seen (option_map commit (conversion v)) v result }
     {
@@ -113,6 +114,7 @@ pub fn from_value<T: FromValue>(v: Value) -> T
 }
 
 /// Converts a value, or returns the value in the error.
+#[inline]
 pub fn from_value_opt<T: FromValue>(v: Value) -> Result<T, FromValueError>
     ensures { ConvertsOrHandsBack T.seen (option_map T.commit (T.conversion v)) v result }
 {

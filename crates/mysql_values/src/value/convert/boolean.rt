@@ -66,6 +66,7 @@ impl FromValue for bool {
         ir.commit()
     }
 
+    #[inline]
     fn get_intermediate(v: Value) -> Result<ParseIrOpt<bool>, FromValueError>
         ensures converts_and_rolls_back { ConvertsAndRollsBack (λ ir. ir)
             boolean_conversion value_of_bool v result }

@@ -39,6 +39,7 @@ impl FromValue for Vec<u8> {
         ir
     }
 
+    #[inline]
     fn get_intermediate(v: Value) -> Result<Vec<u8>, FromValueError> {
         Vec::<u8>::try_from(v)
     }
@@ -74,6 +75,7 @@ impl<const N: usize> FromValue for [u8; N] {
         ir
     }
 
+    #[inline]
     fn get_intermediate(v: Value) -> Result<[u8; N], FromValueError> {
         <[u8; N]>::try_from(v)
     }
@@ -114,6 +116,7 @@ impl FromValue for CowSlice<'static, u8> {
         ir
     }
 
+    #[inline]
     fn get_intermediate(v: Value) -> Result<CowSlice<'static, u8>, FromValueError> {
         CowSlice::<'static, u8>::try_from(v)
     }

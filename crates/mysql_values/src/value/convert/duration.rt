@@ -97,6 +97,7 @@ impl FromValue for Duration {
         ir.commit()
     }
 
+    #[inline]
     fn get_intermediate(v: Value) -> Result<ParseIrOpt<Duration>, FromValueError>
         ensures converts_and_rolls_back { ConvertsAndRollsBack (seen_intermediate as_nanos)
             duration_conversion value_of_duration v result }

@@ -79,6 +79,7 @@ impl<T: FromValue> FromValue for Option<T> {
         Option::<T>::from(ir)
     }
 
+    #[inline]
     fn get_intermediate(v: Value) -> Result<OptionIr2<T>, FromValueError> {
         match v {
             Value::NULL => Ok(OptionIr2::None),

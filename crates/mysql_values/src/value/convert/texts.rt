@@ -39,6 +39,7 @@ impl FromValue for String {
         ir
     }
 
+    #[inline]
     fn get_intermediate(v: Value) -> Result<String, FromValueError> {
         String::try_from(v)
     }
@@ -79,6 +80,7 @@ impl FromValue for CowStr<'static> {
         ir
     }
 
+    #[inline]
     fn get_intermediate(v: Value) -> Result<CowStr<'static>, FromValueError> {
         CowStr::<'static>::try_from(v)
     }

@@ -129,6 +129,7 @@ impl<T: WholeNumber + Drop + From<ParseIrOpt<T>>> FromValue for T {
         ir.commit()
     }
 
+    #[inline]
     fn get_intermediate(v: Value) -> Result<ParseIrOpt<T>, FromValueError>
         ensures converts_and_rolls_back { ConvertsAndRollsBack (λ ir. ir)
             (whole_conversion T.is_signed T.width T.of_number) T.value_of v result }
