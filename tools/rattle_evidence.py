@@ -40,7 +40,12 @@ class Edit:
 
     def __str__(self):
         """Its name as the page has it. A bare asterisk would begin or end emphasis."""
-        return f"`{self.crate}/{self.name}`" + ("\\*" if self.is_apart else "")
+        return self.shown_in(None)
+
+    def shown_in(self, crate):
+        """The same in a row of this crate, whose own edits lack its name there, for the page's bytes."""
+        name = self.name if crate == self.crate else f"{self.crate}/{self.name}"
+        return f"`{name}`" + ("\\*" if self.is_apart else "")
 
 
 def all_edits():

@@ -190,6 +190,12 @@ def record_faults(page, items):
             yield f"no row of the record {record.name} with its fields"
 
 
+def has_edit(text, edit):
+    """Whether the page names the edit, with or without its crate."""
+    shown = "|".join(re.escape(edit.shown_in(crate)) for crate in (None, edit.crate))
+    return re.search(rf"(?:{shown})(?!\\)", text)
+
+
 def page_faults():
     """What of the sources isn't on the page, or is otherwise there: functions, clauses, records, types, edits; and counts."""
     page, found = Reading(), list(public_functions())
@@ -202,6 +208,6 @@ def page_faults():
     if len(page.calls) != len(found):
         faults.append(f"{len(page.calls)} rows of functions, and there are {len(found)}")
     edits = [edit for edit, _ in all_edits()]
-    faults += [f"no edit {edit}" for edit in edits if not re.search(re.escape(str(edit)) + r"(?!\\)", page.text)]
+    faults += [f"no edit {edit}" for edit in edits if not has_edit(page.text, edit)]
     counts = len(found), sum(len(item.clauses) for *_, item in found), len(edits)
     return [f"docs/PROMISES.md: {fault}" for fault in faults], counts

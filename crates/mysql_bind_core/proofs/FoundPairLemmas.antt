@@ -18,8 +18,6 @@ use Rattle.mysql_params_core.specs.Given.{Given, ValueMap, named}
 use Rattle.mysql_params_core.specs.Lookup.{lookup}
 use Rattle.mysql_params_core.specs.Made.{by_name, with_pair}
 use Rattle.mysql_params_core.specs.Referents.{referents}
-use Rattle.mysql_values.specs.BorrowedValue.{owned, owned_values}
-use Rattle.mysql_values.specs.declared.value.ValueRef.{ValueRef}
 use Rattle.mysql_params_core.proofs.BorrowedLemmas.{take-referents}
 use Rattle.mysql_params_core.proofs.WalkLemmas.{values_at-from}
 use Rattle.mysql_binding.specs.AppendedText.{AreFound}
@@ -131,13 +129,13 @@ found_on mode query pairs ns values some distinct many found unmixed listed =
     )
 
 -- one name more
-pub values_more : (pairs : List (List ℕ × Value)) (ns : List (Bor (List ℕ))) (i : ℕ) (d : Bor (List ℕ)) (vs vs' : List ValueRef) (v : ValueRef) → i < length ns →
-    AreValuesIn pairs (take i (referents ns)) (owned_values vs) → value_in pairs (get_or ns i d).now ≡ Some (owned v) → vs' ≡ vs ++ v ∷ [] →
-    AreValuesIn pairs (take (i + 1) (referents ns)) (owned_values vs')
+pub values_more : (pairs : List (List ℕ × Value)) (ns : List (Bor (List ℕ))) (i : ℕ) (d : Bor (List ℕ)) (vs vs' : List (Bor Value)) (v : Bor Value) → i < length ns →
+    AreValuesIn pairs (take i (referents ns)) (referents vs) → value_in pairs (get_or ns i d).now ≡ Some v.now → vs' ≡ vs ++ v ∷ [] →
+    AreValuesIn pairs (take (i + 1) (referents ns)) (referents vs')
 values_more pairs ns i d vs vs' v below so_far e pushed =
     ap (map (value_in pairs)) (take-referents ns i d below)
     ∙ map-append (value_in pairs) (take i (referents ns)) ((get_or ns i d).now ∷ [])
     ∙ ap (λ os. os ++ value_in pairs (get_or ns i d).now ∷ []) so_far
-    ∙ ap (λ o. map (λ x. Some x) (owned_values vs) ++ o ∷ []) e
-    ∙ sym (map-append (λ x. Some x) (owned_values vs) ((owned v) ∷ []))
-    ∙ ap (map (λ x. Some x)) (sym (ap owned_values pushed ∙ map-append owned vs (v ∷ [])))
+    ∙ ap (λ o. map (λ x. Some x) (referents vs) ++ o ∷ []) e
+    ∙ sym (map-append (λ x. Some x) (referents vs) (v.now ∷ []))
+    ∙ ap (map (λ x. Some x)) (sym (ap referents pushed ∙ map-append (λ r. r.now) vs (v ∷ [])))

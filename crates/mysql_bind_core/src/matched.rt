@@ -19,7 +19,7 @@ use crate::failure::Failure;
 use crate::laws::values_are_sent;
 use crate::request::Request;
 use crate::taken::{Attempt, TakenQuery, found_in_text};
-use mysql_binding::WideQuery;
+use mysql_binding::{PlaceValues, WideQuery};
 use mysql_params_core::params::NamedPairs;
 use mysql_values::value::ValueRef;
 use std::alloc::{AllocError, Global};
@@ -185,7 +185,8 @@ impl<'q, 'c> MatchedQuery<'q, 'c> {
         let Some(placed) = placed_values(alloc, numbers.as_slice(), values.as_slice())? else {
             return Ok(Attempt::Left);
         };
-        self.taken.append_found(alloc, placed, script)
+        self.taken
+            .append_found(alloc, PlaceValues::Listed(placed), script)
     }
 }
 

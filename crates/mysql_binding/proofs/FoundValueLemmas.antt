@@ -5,8 +5,6 @@ use Rattle.std.specs.Option.{option_map, option_and_then}
 use Rattle.std.specs.FinMap.{get}
 use Rattle.std.proofs.lemmas.List.{length-map, map-append}
 use Rattle.mysql_value_core.specs.declared.value.Value.{Value}
-use Rattle.mysql_value_core.specs.declared.value.ValueRef.{ValueRef}
-use Rattle.mysql_values.specs.BorrowedValue.{owned, owned_values}
 use Rattle.mysql_params_core.specs.Given.{Given, ValueMap, empty, named, positional}
 use Rattle.mysql_params_core.specs.Lookup.{LookupRefusal, lookup, missing}
 use Rattle.mysql_params_core.specs.Names.{missing_name}
@@ -26,7 +24,7 @@ value_in_map : (m : ValueMap) (n : List ℕ) (v : Value) → lookup (named m) (n
 value_in_map m n v e = found_value (get m n) v _ e
 
 -- the value that a map gives for one name
-pub looked_up_in_map : (m : ValueMap) (n : List ℕ) (v : ValueRef) → option_map owned (Some v) ≡ get m n → lookup (named m) (n ∷ []) ≡ Ok (owned v ∷ [])
+pub looked_up_in_map : (m : ValueMap) (n : List ℕ) (v : Value) → Some v ≡ get m n → lookup (named m) (n ∷ []) ≡ Ok (v ∷ [])
 looked_up_in_map m n v e = rw (sym e) refl
 
 values_in_map : (m : ValueMap) (ns : List (List ℕ)) (vs : List Value) → AreLookedUp (named m) ns vs → map (get m) ns ≡ map (λ x. Some x) vs
@@ -48,23 +46,26 @@ looked_up_all (positional values) (n ∷ ns) (v ∷ vs) some e = cc
 looked_up_all (named m) (n ∷ ns) vs some e =
     ap (λ o. ok_or o (missing (missing_name m (n ∷ ns)))) (values_at-from m (n ∷ ns) vs (values_in_map m (n ∷ ns) vs e))
 
-pub looked_up_none : (given : Given) (vs : List ValueRef) → vs ≡ [] → AreLookedUp given [] (owned_values vs)
-looked_up_none given vs nil = ap (λ x. map (λ v. Ok (v ∷ [])) (owned_values x)) (sym nil)
+-- ---- what is kept of each value
 
--- one name more
-pub looked_up_more : (given : Given) (ns : List (List ℕ)) (n : List ℕ) (vs vs' : List ValueRef) (v : ValueRef) →
-    AreLookedUp given ns (owned_values vs) → lookup given (n ∷ []) ≡ Ok (owned v ∷ []) →
-    vs' ≡ vs ++ v ∷ [] → AreLookedUp given (ns ++ n ∷ []) (owned_values vs')
-looked_up_more given ns n vs vs' v before e pushed =
-    let f = λ (n : List ℕ). lookup given (n ∷ []) in
-    let g = λ (x : Value). Ok (x ∷ []) in
-    map-append f ns (n ∷ [])
-    ∙ ap (λ os. os ++ f n ∷ []) before
-    ∙ ap (λ o. map g (owned_values vs) ++ o ∷ []) e
-    ∙ sym (map-append g (owned_values vs) (owned v ∷ []))
-    ∙ ap (map g) (sym (ap owned_values pushed ∙ map-append owned vs (v ∷ [])))
+module _ {K : Type 0} (value : K → Value) (given : Given) where
+  pub looked_up_none : (kept : List K) → kept ≡ [] → AreLookedUp given [] (map value kept)
+  looked_up_none kept nil = ap (λ x. map (λ v. Ok (v ∷ [])) (map value x)) (sym nil)
 
--- as many names as values
-pub looked_up_length : (given : Given) (ns : List (List ℕ)) (vs : List ValueRef) → AreLookedUp given ns (owned_values vs) → length ns ≡ length vs
-looked_up_length given ns vs e =
-    sym (length-map ns (λ n. lookup given (n ∷ []))) ∙ (ap length e ∙ (length-map (owned_values vs) _ ∙ length-map vs owned))
+  -- one name more
+  pub looked_up_more : (ns : List (List ℕ)) (n : List ℕ) (kept kept' : List K) (k : K) →
+      AreLookedUp given ns (map value kept) → lookup given (n ∷ []) ≡ Ok (value k ∷ []) →
+      kept' ≡ kept ++ k ∷ [] → AreLookedUp given (ns ++ n ∷ []) (map value kept')
+  looked_up_more ns n kept kept' k before e pushed =
+      let f = λ (n : List ℕ). lookup given (n ∷ []) in
+      let g = λ (x : Value). Ok (x ∷ []) in
+      map-append f ns (n ∷ [])
+      ∙ ap (λ os. os ++ f n ∷ []) before
+      ∙ ap (λ o. map g (map value kept) ++ o ∷ []) e
+      ∙ sym (map-append g (map value kept) (value k ∷ []))
+      ∙ ap (map g) (sym (ap (map value) pushed ∙ map-append value kept (k ∷ [])))
+
+  -- as many names as values
+  pub looked_up_length : (ns : List (List ℕ)) (kept : List K) → AreLookedUp given ns (map value kept) → length ns ≡ length kept
+  looked_up_length ns kept e =
+      sym (length-map ns (λ n. lookup given (n ∷ []))) ∙ (ap length e ∙ (length-map (map value kept) _ ∙ length-map kept value))

@@ -1,13 +1,13 @@
 -- The text that is written from a measured text, and its length.
 use Rattle.std.specs.Prelude.{Ok, Err, IfErr, IfOk, Result, option_map, ◌^◌}
-use Rattle.mysql_value_core.specs.declared.value.ValueRef.{ValueRef}
 use Rattle.std.specs.List.{All, sum, sum_by}
-use Rattle.std.proofs.Common.{◌≡◌, ℕ, ◌+◌, ◌<◌, ◌≤◌, List, [], ◌∷◌, ◌++◌, length, take, drop, take_all, length-append, map, Option, Some, None, refl, sym, ap, ◌∙◌, subst, arith}
-use Rattle.std.proofs.lemmas.List.{length-map, take-append-le}
-use Rattle.std.proofs.lemmas.List.Elements.{All-tail}
+use Rattle.std.proofs.Common.{◌≡◌, ℕ, ◌+◌, ◌<◌, ◌≤◌, List, [], ◌∷◌, ◌++◌, length, take, drop, take_all, length-append, map, get_or, Option, Some, None, refl, sym, ap, ◌∙◌, subst, arith}
+use Rattle.std.proofs.lemmas.List.{length-map, map-append, take-append-le, take_more}
+use Rattle.std.proofs.lemmas.List.Elements.{All-push, All-tail}
 use Rattle.std.proofs.lemmas.List.Sums.{sum-map, sum_by-cons}
 use Rattle.std.proofs.lemmas.Slice.{drop-append-drop}
 use Rattle.mysql_values.specs.declared.value.Value.{Value}
+use Rattle.mysql_values.specs.declared.value.Value.TheVariants.{NULL}
 use Rattle.mysql_values.specs.Value.{FieldsInRange}
 use Rattle.mysql_values.specs.Literal.{is_float}
 use Rattle.mysql_named_params.specs.Tokens.{Token, bytes_of, Name, Mark}
@@ -15,7 +15,8 @@ use Rattle.mysql_named_params.specs.Places.{place_count}
 use Rattle.mysql_named_params.specs.Reading.{OnTokensIn}
 use Rattle.mysql_named_params.specs.declared.places.Reading.{Reading}
 use Rattle.mysql_params_core.specs.Given.{Given}
-use Rattle.mysql_values.specs.BorrowedValue.{owned_values}
+use Rattle.mysql_binding.specs.PlaceValues.{placed_values}
+use Rattle.mysql_binding.specs.declared.binding.place_values.PlaceValues.{PlaceValues}
 use Rattle.mysql_binding.specs.AppendedText.{AreFound}
 use Rattle.mysql_binding.specs.BindErrors.{IsCauseOrMemory}
 use Rattle.mysql_binding.specs.FirstCause.{first_cause, float_value, first_float_from, first_float}
@@ -78,7 +79,7 @@ no_float_among ts given values known = none_mapped (first_float values) (no_floa
 
 module _ (literal : Literals) (ts : List Token) (given : Given) (measured : MeasuredText) (is : IsMeasured literal ts given measured) where
   abbrev values : List Value
-  values = owned_values measured.values.items
+  values = placed_values measured.values
 
   abbrev texts : List (List ℕ)
   texts = map (written_literal literal) values
@@ -110,44 +111,71 @@ module _ (literal : Literals) (ts : List Token) (given : Given) (measured : Meas
   )
 
 -- the measured text that the code finds
-pub is_measured : (reading : Reading) (literal : Literals) (query : List ℕ) (given : Given) (survey : Survey) (values : List ValueRef) (measured : MeasuredText) →
-    OnTokensIn reading query (IsSurvey survey) → OnTokensIn reading query (λ ts. IsLookedUp ts given (owned_values values)) →
-    measured.values.items ≡ values → All FieldsInRange (owned_values values) →
-    measured.lens.items ≡ map (literal_len literal) (owned_values values) →
+pub is_measured : (reading : Reading) (literal : Literals) (query : List ℕ) (given : Given) (survey : Survey) (kept : PlaceValues) (measured : MeasuredText) →
+    OnTokensIn reading query (IsSurvey survey) → OnTokensIn reading query (λ ts. IsLookedUp ts given (placed_values kept)) →
+    measured.values ≡ kept → All FieldsInRange (placed_values kept) →
+    measured.lens.items ≡ map (literal_len literal) (placed_values kept) →
     measured.len ≡ survey.piece_bytes + sum measured.lens.items → measured.len < 2 ^ 63 →
     OnTokensIn reading query (λ ts. IsMeasured literal ts given measured)
-is_measured reading literal query given survey values measured surveyed known same range lens len fits =
-    let looked : OnTokensIn reading query (λ ts. IsLookedUp ts given (owned_values measured.values.items)) = subst (λ vs. OnTokensIn reading query (λ ts. IsLookedUp ts given (owned_values vs))) (sym same) known in
-    on_map reading query (λ ts. IsSurvey survey ts × IsLookedUp ts given (owned_values measured.values.items)) (λ ts. IsMeasured literal ts given measured)
+is_measured reading literal query given survey kept measured surveyed known same range lens len fits =
+    let looked : OnTokensIn reading query (λ ts. IsLookedUp ts given (placed_values measured.values)) = subst (λ vs. OnTokensIn reading query (λ ts. IsLookedUp ts given (placed_values vs))) (sym same) known in
+    on_map reading query (λ ts. IsSurvey survey ts × IsLookedUp ts given (placed_values measured.values)) (λ ts. IsMeasured literal ts given measured)
     (λ ts is h. record {
       looked_up = h.1;
-      in_range = subst (λ vs. All FieldsInRange (owned_values vs)) (sym same) range;
-      lens_are = lens ∙ ap (λ vs. map (literal_len literal) (owned_values vs)) (sym same);
+      in_range = subst (λ vs. All FieldsInRange (placed_values vs)) (sym same) range;
+      lens_are = lens ∙ ap (λ vs. map (literal_len literal) (placed_values vs)) (sym same);
       len_is = len ∙ ap (λ n. n + sum measured.lens.items) h.0.3;
       fits = fits;
     })
-    (on_both reading query (IsSurvey survey) (λ ts. IsLookedUp ts given (owned_values measured.values.items)) surveyed looked)
+    (on_both reading query (IsSurvey survey) (λ ts. IsLookedUp ts given (placed_values measured.values)) surveyed looked)
+
+-- ---- the lengths of the literals so far, with one value more
+
+pub lens_more : (literal : Literals) (values : List Value) (i : ℕ) (v : Value) (lens lens' : List ℕ) (n : ℕ) → i < length values → v ≡ get_or values i NULL →
+    lens ≡ map (literal_len literal) (take i values) → n ≡ literal_len literal v → lens' ≡ lens ++ n ∷ [] →
+    lens' ≡ map (literal_len literal) (take (i + 1) values)
+lens_more literal values i v lens lens' n below is before n_is pushed =
+    let len = literal_len literal in
+    pushed
+    ∙ (ap (λ x. x ++ n ∷ []) before
+    ∙ (ap (λ x. map len (take i values) ++ x ∷ []) (n_is ∙ ap len is)
+    ∙ sym (ap (map len) (take_more values i NULL below) ∙ map-append len (take i values) (get_or values i NULL ∷ []))))
+
+pub range_more : (values : List Value) (i : ℕ) (v : Value) → i < length values → v ≡ get_or values i NULL →
+    All FieldsInRange (take i values) → FieldsInRange v → All FieldsInRange (take (i + 1) values)
+range_more values i v below is all here =
+    subst (All FieldsInRange) (sym (take_more values i NULL below ∙ ap (λ x. take i values ++ x ∷ []) (sym is)))
+    (All-push FieldsInRange (take i values) v all here)
 
 -- ---- the parts from which the text is filled
 
 module _ (reading : Reading) (literal : Literals) (query : List ℕ) (given : Given) (measured : MeasuredText) (o : OnTokensIn reading query (λ ts. IsMeasured literal ts given measured)) where
-  pub fill_no_float : first_float (owned_values measured.values.items) ≡ None
-  fill_no_float = no_float_among o.0 given (owned_values measured.values.items) o.2.looked_up
+  pub fill_no_float : first_float (placed_values measured.values) ≡ None
+  fill_no_float = no_float_among o.0 given (placed_values measured.values) o.2.looked_up
 
-  pub fill_places : OnTokensIn reading query (λ ts. length (owned_values measured.values.items) ≡ place_count ts)
+  pub fill_places : OnTokensIn reading query (λ ts. length (placed_values measured.values) ≡ place_count ts)
   fill_places = (o.0, o.1, value_for_each literal o.0 given measured o.2)
 
-  pub fill_lens : measured.lens.items ≡ map (literal_len literal) (owned_values measured.values.items)
+  pub fill_places_of : (values : List Value) → placed_values measured.values ≡ values → OnTokensIn reading query (λ ts. length values ≡ place_count ts)
+  fill_places_of vs are = subst (λ vs. OnTokensIn reading query (λ ts. length vs ≡ place_count ts)) are fill_places
+
+  pub fill_lens : measured.lens.items ≡ map (literal_len literal) (placed_values measured.values)
   fill_lens = o.2.lens_are
 
   pub fill_room : (room : List ℕ) → length room ≡ measured.len → OnTokensIn reading query (λ ts. length room ≡ pieces_len ts + sum measured.lens.items)
   fill_room room exact = (o.0, o.1, exact ∙ o.2.len_is)
 
   pub filled_text : (IsKnown : LiteralFacts) (text : List ℕ) →
-      OnTokensIn reading query (λ ts. IsWrittenText literal IsKnown ts (owned_values measured.values.items) text) →
+      OnTokensIn reading query (λ ts. IsWrittenText literal IsKnown ts (placed_values measured.values) text) →
       OnTokensIn reading query (λ ts. IsGivenText literal IsKnown ts given text)
   filled_text IsKnown text written =
-      given_on reading literal IsKnown query given (owned_values measured.values.items) text (o.0, o.1, o.2.looked_up) written
+      given_on reading literal IsKnown query given (placed_values measured.values) text (o.0, o.1, o.2.looked_up) written
+
+  pub filled_text_of : (IsKnown : LiteralFacts) (values : List Value) (text : List ℕ) → placed_values measured.values ≡ values →
+      OnTokensIn reading query (λ ts. IsWrittenText literal IsKnown ts values text) →
+      OnTokensIn reading query (λ ts. IsGivenText literal IsKnown ts given text)
+  filled_text_of IsKnown vs text are written =
+      filled_text IsKnown text (subst (λ vs. OnTokensIn reading query (λ ts. IsWrittenText literal IsKnown ts vs text)) (sym are) written)
 
 -- ---- its place
 

@@ -6,7 +6,7 @@ use Rattle.mysql_values.specs.declared.value.Value.{Value}
 use Rattle.mysql_named_params.specs.Places.{names, marks, place_count}
 use Rattle.mysql_params_core.specs.Given.{Given}
 use Rattle.mysql_params_core.specs.Lookup.{LookupRefusal, lookup}
-use Rattle.mysql_values.specs.BorrowedValue.{owned_values}
+use Rattle.mysql_binding.specs.PlaceValues.{placed_values}
 use Rattle.mysql_binding.specs.AppendedText.{AreFound}
 use Rattle.mysql_binding.specs.BindErrors.{IsLookupError, IsCauseOrMemory, cause_of}
 use Rattle.mysql_binding.specs.FirstCause.{Cause, first_cause, first_float, mark_count_differs, refused_params}
@@ -132,10 +132,10 @@ module _ (survey : Survey) (spans : List PlaceSpan) (reading : Reading) (query :
   -- the text in the room is that of the query
   pub own_given_text : (literal : Literals) (IsKnown : LiteralFacts) (given : Given) (measured : MeasuredText) (text : List ℕ) →
       OnTokensIn reading query (λ ts. IsMeasured literal ts given measured) →
-      IsTextAt literal IsKnown spans query (owned_values measured.values.items) text →
+      IsTextAt literal IsKnown spans query (placed_values measured.values) text →
       OnTokensIn reading query (λ ts. IsGivenText literal IsKnown ts given text)
   own_given_text literal IsKnown given measured text is at =
-      let values = owned_values measured.values.items in
+      let values = placed_values measured.values in
       let places : OnTokensIn reading query (λ ts. length values ≡ place_count ts) = fill_places reading literal query given measured is in
       let same : places.0 ≡ own.0 = one_reading reading query places.0 own.0 places.1 own.1 in
       let each : length at.0 ≡ place_count own.0 = as_many_texts literal IsKnown values at.0 at.1 ∙ (places.2 ∙ ap place_count same) in

@@ -19,6 +19,7 @@ pub mod AppendedText
 pub mod TextInRoom
 pub mod BindErrors
 pub mod MeasuredText
+pub mod PlaceValues
 pub mod PlaceSpans
 pub mod SpannedQuery
 pub mod Isolation

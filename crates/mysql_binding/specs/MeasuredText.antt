@@ -7,8 +7,8 @@ use Rattle.mysql_named_params.specs.Tokens.{Token}
 use Rattle.mysql_named_params.specs.NamesAndMarks.{names}
 use Rattle.mysql_params_core.specs.GivenValues.{Given}
 use Rattle.mysql_params_core.specs.LookupValues.{lookup}
-use Rattle.mysql_values.specs.BorrowedValue.{owned_values}
 use Rattle.mysql_binding.specs.FirstCause.{mark_count_differs, first_float, mixed_cause, later_cause}
+use Rattle.mysql_binding.specs.PlaceValues.{placed_values}
 use Rattle.mysql_binding.specs.LiteralForm.{Literals, LiteralFacts, literal_len}
 use Rattle.mysql_binding.specs.TextLength.{pieces_len}
 use Rattle.mysql_binding.specs.TextInRoom.{HasTextOf}
@@ -26,10 +26,10 @@ IsLookedUp ts given values =
 -- `isize::MAX` bytes.
 pub record IsMeasured (literal : Literals) (ts : List Token) (given : Given)
     (measured : MeasuredText) : Type 0 where
-  pub looked_up : IsLookedUp ts given (owned_values measured.values.items)
-  pub in_range : All FieldsInRange (owned_values measured.values.items)
+  pub looked_up : IsLookedUp ts given (placed_values measured.values)
+  pub in_range : All FieldsInRange (placed_values measured.values)
   pub lens_are : measured.lens.items
-      ≡ map (literal_len literal) (owned_values measured.values.items)
+      ≡ map (literal_len literal) (placed_values measured.values)
   pub len_is : measured.len ≡ pieces_len ts + sum measured.lens.items
   pub fits : measured.len < 2 ^ 63
 
@@ -37,7 +37,7 @@ pub record IsMeasured (literal : Literals) (ts : List Token) (given : Given)
 -- of their literals and of the text.
 pub record IsOfSurvey (literal : Literals) (survey : Survey) (values : List Value)
     (measured : MeasuredText) : Type 0 where
-  pub values_are : owned_values measured.values.items ≡ values
+  pub values_are : placed_values measured.values ≡ values
   pub as_many_marks : mark_count_differs survey.names survey.marks (length values) ≡ false
   pub no_float : first_float values ≡ None
   pub lens_are : measured.lens.items ≡ map (literal_len literal) values

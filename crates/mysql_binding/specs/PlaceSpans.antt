@@ -6,9 +6,9 @@ use Rattle.mysql_values.specs.declared.value.Value.{Value}
 use Rattle.mysql_named_params.specs.declared.places.FoundPlace.{FoundPlace}
 use Rattle.mysql_named_params.specs.Reading.{OnTokensIn}
 use Rattle.mysql_named_params.specs.declared.places.Reading.{Reading}
-use Rattle.mysql_values.specs.BorrowedValue.{owned_values}
 use Rattle.mysql_binding.specs.FirstCause.{first_float}
 use Rattle.mysql_binding.specs.FoundPlaces.{found_places}
+use Rattle.mysql_binding.specs.PlaceValues.{placed_values}
 use Rattle.mysql_binding.specs.LiteralForm.{Literals, LiteralFacts, AreWrittenAs, literal_len}
 use Rattle.mysql_binding.specs.Survey.{IsSurvey}
 use Rattle.mysql_binding.specs.TextInRoom.{IsTextInRoom}
@@ -73,10 +73,10 @@ pub record FitSurvey (survey : Survey) (spans : List PlaceSpan) (query : List �
 -- of the text.
 pub record IsReady (literal : Literals) (spans : List PlaceSpan) (query : List ℕ)
     (measured : MeasuredText) : Type 0 where
-  pub each : length (owned_values measured.values.items) ≡ length spans
-  pub no_float : first_float (owned_values measured.values.items) ≡ None
+  pub each : length (placed_values measured.values) ≡ length spans
+  pub no_float : first_float (placed_values measured.values) ≡ None
   pub lens_are : measured.lens.items
-      ≡ map (literal_len literal) (owned_values measured.values.items)
+      ≡ map (literal_len literal) (placed_values measured.values)
   pub len_is : measured.len ≡ outside_len spans query + sum measured.lens.items
 
 -- these bytes with the literals of the values in the places

@@ -1,5 +1,5 @@
 //! Queries with the literals of values in the places of names and marks.
-ghost use Rattle.std.specs.Prelude.{◌≡◌, false, ℕ, List, None, Ok, Some, IfErr, IfOk, IfSome, IsErrOf, length, option_map};
+ghost use Rattle.std.specs.Prelude.{◌≡◌, false, ℕ, List, [], None, Ok, Some, IfErr, IfOk, IfSome, IsErrOf, length, option_map};
 ghost use Rattle.mysql_sql_text.specs.StringUnits.{with_backslashes};
 ghost use Rattle.mysql_named_params.specs.Tokens.{OnTokens, Token};
 ghost use Rattle.mysql_named_params.specs.Reading.{OnTokensIn};
@@ -9,13 +9,13 @@ ghost use Rattle.mysql_params_core.specs.Given.{Given, given};
 ghost use Rattle.mysql_params_core.specs.GivenBorrowed.{given_by_borrowed};
 ghost use Rattle.mysql_params_core.specs.Lookup.{LookupRefusal, lookup};
 ghost use Rattle.mysql_params_core.specs.Referents.{referents};
-ghost use Rattle.mysql_values.specs.BorrowedValue.{owned_values};
 ghost use Rattle.mysql_binding.specs.AppendedText.{AreFound};
 ghost use Rattle.mysql_binding.specs.BindErrors.{IsCauseOrMemory, IsLookupError, cause_of};
 ghost use Rattle.mysql_binding.specs.BoundAgain.{IsSameBoundAgain, IsSameByPosition};
 ghost use Rattle.mysql_binding.specs.FirstCause.{mark_count_differs, first_cause, first_float, later_cause, mixed_cause, refused_params};
 ghost use Rattle.mysql_binding.specs.Isolation.{IsBoundText};
 ghost use Rattle.mysql_binding.specs.MeasuredText.{IsMeasured, IsOfSurvey};
+ghost use Rattle.mysql_binding.specs.PlaceValues.{placed_values};
 ghost use Rattle.mysql_binding.specs.Survey.{IsSurvey};
 ghost use Rattle.mysql_binding.specs.SurveyedQuery.{OnSurveyed};
 ghost use Rattle.mysql_binding.specs.WrittenText.{IsGivenText};
@@ -23,10 +23,12 @@ ghost use Rattle.mysql_binding.specs.WrittenText.{IsGivenText};
 mod form;
 mod found;
 mod found_query;
+mod kept_values;
 mod literals;
 mod names;
 mod pairs;
 mod parsed_query;
+mod place_values;
 mod room;
 mod spanned;
 mod spans;
@@ -47,6 +49,7 @@ pub use crate::binding::pairs::{
     bind_values_into_in,
 };
 pub use crate::binding::parsed_query::ParsedQuery;
+pub use crate::binding::place_values::{LiteralValue, PairValues, PlaceValues};
 pub use crate::binding::room::{TextInRoom, bind_surveyed_into};
 pub use crate::binding::spanned::SpannedQuery;
 pub use crate::binding::spans::{PlaceSpan, bind_spans_into, place_spans};
@@ -60,7 +63,6 @@ pub use crate::binding::wide::{
 pub use crate::binding::wide_query::WideQuery;
 use mysql_named_params::places::{FoundPlace, PlaceKind, Reading};
 use mysql_params_core::params::{BorrowedParams, Params, place_values};
-use mysql_values::value::ValueRef;
 use std::alloc::Global;
 
 /// Binds parameters to a query: returns it with a literal in place of each name and mark. A name
@@ -292,23 +294,23 @@ pub fn measured_text<'p, F: LiteralForm>(
 pub fn measured_values<'p, F: LiteralForm>(
     alloc: Global,
     survey: Survey,
-    values: Vec<ValueRef<'p>>,
+    values: PlaceValues<'p>,
     form: &F,
 ) -> Result<MeasuredText<'p>, BindError>
     ensures measured { IfOk result (λ measured. (reading : Reading) (query : List ℕ)
         (given : Given) → OnTokensIn reading query (IsSurvey survey) →
-        OnTokensIn reading query (AreFound given (owned_values values.entry.items)) →
+        OnTokensIn reading query (AreFound given (placed_values values.entry)) →
         OnTokensIn reading query (λ ts. IsMeasured (F.literal form.now) ts given measured)) }
     ensures refused { IfErr result (λ error. (reading : Reading) (query : List ℕ) (given : Given) →
         OnTokensIn reading query (IsSurvey survey) →
-        OnTokensIn reading query (AreFound given (owned_values values.entry.items)) →
+        OnTokensIn reading query (AreFound given (placed_values values.entry)) →
         OnTokensIn reading query (λ ts. IsCauseOrMemory (first_cause ts given) error)) }
     ensures in_survey { IfOk result
-        (IsOfSurvey (F.literal form.now) survey (owned_values values.entry.items)) }
+        (IsOfSurvey (F.literal form.now) survey (placed_values values.entry)) }
     ensures no_lookup { IfErr result (λ error. (refusal : LookupRefusal) →
         cause_of error ≡ Some (refused_params refusal) → ⊥) }
 {
-    if let Some(error) = later_error(survey, values.as_slice()) {
+    if let Some(error) = later_error(survey, &values) {
         return Err(error);
     }
     Ok(with_lengths(alloc, survey.piece_bytes, values, form)?)
@@ -319,19 +321,34 @@ fn values_of_places<'p>(
     alloc: Global,
     surveyed: &SurveyedQuery<'_>,
     params: BorrowedParams<'p, '_>,
-) -> Result<Vec<ValueRef<'p>>, BindError>
+) -> Result<PlaceValues<'p>, BindError>
     requires unmixed { OnSurveyed surveyed.now (λ ts. mixed_cause ts ≡ None) }
     ensures values { IfOk result (λ values. OnSurveyed surveyed.now (λ ts.
-        lookup (given_by_borrowed params.entry) (names ts) ≡ Ok (owned_values values.items))) }
+        lookup (given_by_borrowed params.entry) (names ts) ≡ Ok (placed_values values))) }
     ensures refused { IfErr result (λ error. OnSurveyed surveyed.now (λ ts.
         IsCauseOrMemory (first_cause ts (given_by_borrowed params.entry)) error)) }
 {
-    if surveyed.survey.names > 0 {
-        if let Some(values) = found_values(alloc, surveyed, params)? {
-            return Ok(values);
-        }
+    let found = if surveyed.survey.names > 0 {
+        found_values(alloc, surveyed, params)?
+    } else {
+        given_values(params)
+    };
+    match found {
+        Some(values) => Ok(values),
+        None => values_of_list(alloc, surveyed, params),
     }
-    values_of_list(alloc, surveyed, params)
+}
+
+// The values by position, for a query without names. They stay where they are.
+fn given_values<'p>(params: BorrowedParams<'p, '_>) -> Option<PlaceValues<'p>>
+    ensures { IfSome result (λ values.
+        lookup (given_by_borrowed params.entry) [] ≡ Ok (placed_values values)) }
+{
+    match params {
+        BorrowedParams::Positional(values) => Some(PlaceValues::Positional(values)),
+        BorrowedParams::Values(values) => Some(PlaceValues::Values(values)),
+        _ => None,
+    }
 }
 
 // The same by a list of the names, which reports a name without a value. The list is dropped before
@@ -340,10 +357,10 @@ fn values_of_list<'p>(
     alloc: Global,
     surveyed: &SurveyedQuery<'_>,
     params: BorrowedParams<'p, '_>,
-) -> Result<Vec<ValueRef<'p>>, BindError>
+) -> Result<PlaceValues<'p>, BindError>
     requires unmixed { OnSurveyed surveyed.now (λ ts. mixed_cause ts ≡ None) }
     ensures values { IfOk result (λ values. OnSurveyed surveyed.now (λ ts.
-        lookup (given_by_borrowed params.entry) (names ts) ≡ Ok (owned_values values.items))) }
+        lookup (given_by_borrowed params.entry) (names ts) ≡ Ok (placed_values values))) }
     ensures refused { IfErr result (λ error. OnSurveyed surveyed.now (λ ts.
         IsCauseOrMemory (first_cause ts (given_by_borrowed params.entry)) error)) }
 {
@@ -357,29 +374,30 @@ fn looked_up_values<'p>(
     alloc: Global,
     params: BorrowedParams<'p, '_>,
     names: &[&[u8]],
-) -> Result<Vec<ValueRef<'p>>, BindError>
+) -> Result<PlaceValues<'p>, BindError>
     ensures values { IfOk result (λ values. lookup (given_by_borrowed params.entry)
-        (referents names.now) ≡ Ok (owned_values values.items)) }
+        (referents names.now) ≡ Ok (placed_values values)) }
     ensures refused { IfErr result
         (IsLookupError (given_by_borrowed params.entry) (referents names.now)) }
 {
-    Ok(place_values(alloc, params, names)?)
+    Ok(PlaceValues::Listed(place_values(alloc, params, names)?))
 }
 
 // The first of the causes after the lookup: the marks, the places, the floats.
-fn later_error(survey: Survey, values: &[ValueRef<'_>]) -> Option<BindError>
+fn later_error(survey: Survey, values: &PlaceValues<'_>) -> Option<BindError>
     ensures cause { (ts : List Token) → IsSurvey survey ts →
-        option_map cause_of result ≡ option_map Some (later_cause ts (owned_values values.now)) }
+        option_map cause_of result ≡ option_map Some (later_cause ts (placed_values values.now)) }
     ensures no_lookup { IfSome result (λ error. (refusal : LookupRefusal) →
         cause_of error ≡ Some (refused_params refusal) → ⊥) }
     ensures none { result ≡ None →
-        (mark_count_differs survey.names survey.marks (length (owned_values values.now)) ≡ false)
-        × (first_float (owned_values values.now) ≡ None) }
+        (mark_count_differs survey.names survey.marks (length (placed_values values.now)) ≡ false)
+        × (first_float (placed_values values.now) ≡ None) }
 {
-    if mark_count_differs(survey, values.len()) {
+    let count = values.count();
+    if mark_count_differs(survey, count) {
         return Some(BindError::MarkCount {
             marks: survey.marks,
-            values: values.len(),
+            values: count,
         });
     }
     if let Some((place, at)) = survey.not_alone {

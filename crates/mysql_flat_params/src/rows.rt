@@ -21,8 +21,8 @@ use crate::outcome::Outcome;
 use crate::row_names::{FoundNames, RowMemory};
 use byteorder::{ByteOrder, LittleEndian};
 use mysql_binding::{
-    KEPT_PLACES, MeasuredText, NO_PLACE, PlainForm, SurveyedQuery, all_places, fill_measured,
-    measured_text, measured_values,
+    KEPT_PLACES, MeasuredText, NO_PLACE, PlaceValues, PlainForm, SurveyedQuery, all_places,
+    fill_measured, measured_text, measured_values,
 };
 use mysql_named_params::places::Reading;
 use mysql_values::value::ValueRef;
@@ -252,14 +252,14 @@ fn bind_found<'f>(
     let literals = PlainForm {
         no_backslash_escape: surveyed.reading.no_backslash_escape,
     };
-    let measured = match measured_values(alloc, surveyed.survey, values, &literals) {
-        Ok(measured) => measured,
+    let list = PlaceValues::Values(values.as_slice());
+    let outcome = match measured_values(alloc, surveyed.survey, list, &literals) {
+        Ok(measured) => fill_string(surveyed, &measured, room),
         Err(error) => {
             return bind_outcome(surveyed.query, error, surveyed.reading);
         }
     };
-    let outcome = fill_string(surveyed, &measured, room);
-    memory.spare = measured.values;
+    memory.spare = values;
     memory.found = Some(found);
     outcome
 }

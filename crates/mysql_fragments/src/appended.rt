@@ -27,7 +27,7 @@ pub(crate) fn append_filled<F: LiteralForm>(
         (fragment_values fragment.now) }
 {
     match fragment {
-        Fragment::Value(value) => put_literal(text, at, value.borrowed(), form),
+        Fragment::Value(value) => put_literal(text, at, value, form),
         Fragment::List(items) => append_items(text, at, items.as_slice(), form),
         Fragment::Rows(rows) => append_rows(text, at, rows.as_slice(), form),
         Fragment::Decimal(number) => append_piece(text, at, number.as_slice()),
@@ -54,7 +54,7 @@ fn append_item<F: LiteralForm>(text: &mut [u8], at: usize, item: &Item, form: &F
         (item_values item.now) }
 {
     match item {
-        Item::Value(value) => put_literal(text, at, value.borrowed(), form),
+        Item::Value(value) => put_literal(text, at, value, form),
         Item::Decimal(number) => append_piece(text, at, number.as_slice()),
         Item::Double(double) => append_piece(text, at, double.as_bytes()),
     }

@@ -3,7 +3,6 @@
 //! returns `None` if the sum is above `isize::MAX`.
 ghost use Rattle.std.specs.Prelude.{◌≡◌, ◌+◌, ◌^◌, ◌≤◌, [], ◌∷◌, None, IfSome, codes, length, map};
 ghost use Rattle.std.specs.List.{flat_map};
-ghost use Rattle.mysql_values.specs.BorrowedValue.{owned};
 ghost use Rattle.mysql_binding.specs.LiteralForm.{written_literal};
 ghost use Rattle.mysql_binding.specs.MeasuredText.{IsOfFields};
 ghost use Rattle.mysql_binding.specs.PushedLiteral.{AreKnownUnlessFloats};
@@ -11,8 +10,7 @@ ghost use Rattle.mysql_fragments.specs.FilledText.{separator_before};
 ghost use Rattle.mysql_fragments.specs.FragmentText.{assignment_values, columns_text, doubled, filled_assignment, filled_assignments, filled_item, filled_items, filled_row, filled_text, fragment_values, identifier_text, item_values, joined};
 
 use crate::fragment::{ColumnAssignment, Fragment, Item};
-use mysql_binding::{LiteralForm, literal_len};
-use mysql_values::value::ValueRef;
+use mysql_binding::{LiteralForm, LiteralValue, literal_len};
 
 /// The length with that of a fragment.
 pub(crate) fn with_fragment<F: LiteralForm>(
@@ -28,7 +26,7 @@ pub(crate) fn with_fragment<F: LiteralForm>(
         (fragment_values fragment.now)) }
 {
     match fragment {
-        Fragment::Value(value) => with_literal(len, value.borrowed(), form),
+        Fragment::Value(value) => with_literal(len, value, form),
         Fragment::List(items) => with_items(len, items.as_slice(), form),
         Fragment::Rows(rows) => with_rows(len, rows.as_slice(), form),
         Fragment::Decimal(number) => with_more(len, number.len() as u128),
@@ -51,7 +49,7 @@ fn with_item<F: LiteralForm>(len: usize, item: &Item, form: &F) -> Option<usize>
         (item_values item.now)) }
 {
     match item {
-        Item::Value(value) => with_literal(len, value.borrowed(), form),
+        Item::Value(value) => with_literal(len, value, form),
         Item::Decimal(number) => with_more(len, number.len() as u128),
         Item::Double(double) => with_more(len, double.as_bytes().len() as u128),
     }
@@ -194,17 +192,17 @@ fn backquotes(name: &[u8]) -> usize
 }
 
 /// The length with that of the literal of a value; a float has none.
-pub(crate) fn with_literal<F: LiteralForm>(
+pub(crate) fn with_literal<F: LiteralForm, V: LiteralValue>(
     len: usize,
-    value: ValueRef<'_>,
+    value: V,
     form: &F,
 ) -> Option<usize>
     ensures len { IfSome result (λ sum. sum
-        ≡ len + length (written_literal (F.literal form.now) (owned value.entry))) }
+        ≡ len + length (written_literal (F.literal form.now) (V.value value))) }
     ensures too_long { result ≡ None → 2 ^ 63
-        ≤ len + length (written_literal (F.literal form.now) (owned value.entry)) }
+        ≤ len + length (written_literal (F.literal form.now) (V.value value)) }
     ensures known { IfSome result (λ sum. AreKnownUnlessFloats (F.literal form.now) IsOfFields
-        (owned value.entry ∷ [])) }
+        (V.value value ∷ [])) }
 {
     with_more(len, literal_len(value, form))
 }

@@ -41,6 +41,7 @@ pub(crate) fn push_fragment<F: ValueForm>(
 }
 
 // Writes an item to the end: a value in the form.
+#[inline(always)]
 fn push_item<F: ValueForm>(text: &mut Vec<u8>, item: &Item, form: &F) -> Result<(), AllocError>
     ensures text { IfOk result (λ done. text.new.items
         ≡ text.old.items ++ filled_item (written_literal (F.written form.now)) item.now) }

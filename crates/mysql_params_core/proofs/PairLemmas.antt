@@ -8,12 +8,13 @@ use Rattle.std.specs.Cmp.{unsigned_ties}
 use Rattle.std.specs.Cmp.Lexicographic.{slice_cmp, pointwise, lists_ties, nat_list_cmp_total}
 use Rattle.std.specs.FinMap as finite
 use Rattle.std.specs.FinMap.{get, contains_key, get-empty, get-insert, get-from_entries, from_entries, from_entries_push, slice_cmp-IsAntisymmetric, nat_cmp-IsAntisymmetric}
-use Rattle.std.proofs.lemmas.List.{at_drop_more, at_drop_all, take_more, map-append, get_or_default}
+use Rattle.std.proofs.lemmas.List.{at_drop_more, at_drop_all, take_more, map-append, get_or_default, get_or-map}
 use Rattle.std.proofs.lemmas.Option.{slice_get-get_or}
+use Rattle.mysql_value_core.specs.declared.value.Value.TheVariants.{NULL}
 use Rattle.mysql_value_core.specs.declared.value.ValueRef.{ValueRef}
 use Rattle.mysql_values.specs.BorrowedValue.{owned}
 use Rattle.mysql_params_core.specs.Given.{named}
-use Rattle.mysql_params_core.specs.GivenBorrowed.{by_borrowed, pair_map}
+use Rattle.mysql_params_core.specs.GivenBorrowed.{by_borrowed, pair_map, pair_value}
 use Rattle.mysql_params_core.specs.Made.{with_pair, by_name, seen_pair, redefined, IsFirstRedefined}
 use Rattle.mysql_params_core.proofs.MakingLemmas.{fold-take-next, fold-refused_at}
 
@@ -49,6 +50,11 @@ module _ (pairs : List (Bor (List ℕ) × ValueRef)) (i : ℕ) (d : Bor (List �
   get-pairs_after other =
       get-pairs_from
       ∙ ap (λ b. cond b (Some (owned (get_or pairs i d).1)) (get (pair_map (drop (i + 1) pairs)) q)) other
+
+-- the value of the pair at an index
+pub value_at : (pairs : List (Bor (List ℕ) × ValueRef)) (i : ℕ) (d : Bor (List ℕ) × ValueRef) → i < length pairs
+    → pair_value pairs i ≡ owned (get_or pairs i d).1
+value_at pairs i d below = get_or-map (λ pair. owned pair.1) pairs i d NULL below
 
 -- no pairs have nothing
 pub get-no_pairs : (pairs : List (Bor (List ℕ) × ValueRef)) (i : ℕ) (q : List ℕ) → length pairs ≤ i

@@ -1,9 +1,10 @@
 -- The values that borrowed parameters give to a query: borrowed maps and lists, and pairs whose
 -- names and values are borrowed.
-use Rattle.std.specs.Prelude.{ℕ, List, map}
+use Rattle.std.specs.Prelude.{ℕ, List, get_or, map}
 use Rattle.std.specs.FinMap.{from_entries}
 use Rattle.std.specs.Borrow.{Bor}
 use Rattle.mysql_value_core.specs.declared.value.Value.{Value}
+use Rattle.mysql_value_core.specs.declared.value.Value.TheVariants.{NULL}
 use Rattle.mysql_value_core.specs.declared.value.ValueRef.{ValueRef}
 use Rattle.mysql_values.specs.BorrowedValue.{owned, owned_values}
 use Rattle.mysql_params_core.specs.GivenValues.{Given, ValueMap, empty, named, positional}
@@ -18,6 +19,10 @@ by_borrowed pair = (pair.0.now, owned pair.1)
 -- the finite map of pairs; if several pairs have one name, it has the first
 abbrev pub pair_map : List (Bor (List ℕ) × ValueRef) → ValueMap
 pair_map pairs = from_entries (map by_borrowed pairs)
+
+-- the value of the pair with an index, or NULL if there is none
+abbrev pub pair_value : List (Bor (List ℕ) × ValueRef) → ℕ → Value
+pair_value pairs n = get_or (map (λ pair. owned pair.1) pairs) n NULL
 
 -- the values that these borrowed parameters give
 abbrev pub given_by_borrowed : BorrowedParams → Given

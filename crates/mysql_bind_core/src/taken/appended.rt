@@ -2,12 +2,12 @@
 //! depend only on the query, so they are found once for all rows. A value is looked for among the
 //! few values of its row, without a map.
 ghost use Rattle.std.specs.Prelude.{◌≡◌, ◌++◌, ◌<◌, ℕ, false, true, List, length, map, option_map, IfOk, IfErr, IfSome, IsTrue, OnErr, OnOk};
-ghost use Rattle.mysql_values.specs.BorrowedValue.{owned_values};
 ghost use Rattle.mysql_named_params.specs.Reading.{OnWideTokens};
 ghost use Rattle.mysql_named_params.specs.Places.{names};
 ghost use Rattle.mysql_params_core.specs.Given.{Given};
 ghost use Rattle.mysql_params_core.specs.Referents.{referents};
 ghost use Rattle.mysql_binding.specs.AppendedText.{AreFound};
+ghost use Rattle.mysql_binding.specs.PlaceValues.{placed_values};
 ghost use Rattle.mysql_query_core.specs.WordErrors.{seen_pair};
 ghost use Rattle.mysql_bind_core.specs.Assignments.{pairs_of};
 ghost use Rattle.mysql_bind_core.specs.Contents.{has_fragment};
@@ -21,9 +21,9 @@ use crate::failure::Failure;
 use crate::laws::values_are_sent;
 use crate::request::Literals;
 use crate::taken::{TakenQuery, found_in_text};
-use mysql_binding::{BindError, PlainForm, append_surveyed};
+use mysql_binding::{BindError, PlaceValues, PlainForm, append_surveyed};
 use mysql_steady_text::SteadyForm;
-use mysql_values::value::{Value, ValueRef};
+use mysql_values::value::Value;
 use std::alloc::{AllocError, Global};
 
 // A row of at most this many values is bound without a map of them. Making the map was a fifth of
@@ -172,7 +172,7 @@ impl<'q> TakenQuery<'q> {
         // Called for its `ensures` clause: the request takes the query, so the query has no mark.
         self.request();
         match values_in(alloc, query_names, pairs)? {
-            Some(values) => self.append_found(alloc, values, script),
+            Some(values) => self.append_found(alloc, PlaceValues::Named(values), script),
             None => Ok(Attempt::Left),
         }
     }
@@ -181,15 +181,15 @@ impl<'q> TakenQuery<'q> {
     pub(crate) fn append_found(
         &self,
         alloc: Global,
-        values: Vec<ValueRef<'_>>,
+        values: PlaceValues<'_>,
         script: &mut Vec<u8>,
     ) -> Result<Attempt, AllocError>
         requires { (given : Given) × OnWideTokens (mode_of self.now.request.literals) self.now.query
-            (AreFound given (owned_values values.items)) }
+            (AreFound given (placed_values values)) }
         ensures bound { IfOk result (λ attempt. attempt ≡ Attempt.Written → (text : List ℕ)
             × (script.new.items ≡ script.old.items ++ text) × ((given : Given) →
             OnWideTokens (mode_of self.now.request.literals) self.now.query
-            (AreFound given (owned_values values.entry.items)) →
+            (AreFound given (placed_values values.entry)) →
             OnWideTokens (mode_of self.now.request.literals) self.now.query (λ ts.
             IsTextFor self.now.request.literals self.now.request.portability ts
             given text))) }
@@ -236,19 +236,19 @@ fn are_few_values(query_names: &[&[u8]], assignments: &[Assignment]) -> bool
     !query_names.is_empty() && assignments.len() <= FEW_VALUES && !has_fragment(assignments)
 }
 
-// The values, borrowed, of the pairs with these names, if each name has one.
+// The values of the pairs with these names, if each name has one.
 fn values_in<'v>(
     alloc: Global,
     names: &[&[u8]],
     pairs: &'v [(&[u8], Value)],
-) -> Result<Option<Vec<ValueRef<'v>>>, AllocError>
+) -> Result<Option<Vec<&'v Value>>, AllocError>
     ensures { IfOk result (λ found. IfSome found (λ values.
-        AreValuesIn (map seen_pair pairs.now) (referents names.now) (owned_values values.items))) }
+        AreValuesIn (map seen_pair pairs.now) (referents names.now) (referents values.items))) }
 {
     let mut values = Vec::with_capacity(alloc, names.len())?;
     for name in names {
         match value_in(pairs, *name) {
-            Some(value) => values.push(value.borrowed())?,
+            Some(value) => values.push(value)?,
             None => return Ok(None),
         }
     }

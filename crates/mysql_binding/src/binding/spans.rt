@@ -1,6 +1,7 @@
 //! The places of a query as plain numbers that a caller keeps, and binding by these numbers without
 //! a walk of the query.
-ghost use Rattle.std.specs.Prelude.{◌≡◌, ◌+◌, ◌<◌, ◌≤◌, Ok, length, map, take, drop, IfErr, IfOk, IfSome, IsErrOf, OnErr, OnOk};
+ghost use Rattle.std.specs.Prelude.{◌≡◌, ◌+◌, ◌<◌, ◌≤◌, None, Ok, length, map, take, drop, IfErr, IfOk, IfSome, IsErrOf, OnErr, OnOk};
+ghost use Rattle.std.specs.List.{sum};
 ghost use Rattle.mysql_named_params.specs.Reading.{OnTokensIn};
 ghost use Rattle.mysql_named_params.specs.declared.places.Reading.{Reading};
 ghost use Rattle.mysql_named_params.specs.Places.{HasMark, HasName};
@@ -8,12 +9,13 @@ ghost use Rattle.mysql_params_core.specs.Given.{named};
 ghost use Rattle.mysql_params_core.specs.GivenBorrowed.{given_by_borrowed};
 ghost use Rattle.mysql_params_core.specs.Lookup.{lookup};
 ghost use Rattle.mysql_params_core.specs.Referents.{referents};
-ghost use Rattle.mysql_values.specs.BorrowedValue.{owned_values};
 ghost use Rattle.mysql_binding.specs.BindErrors.{IsCauseOrMemory, IsLookupError};
-ghost use Rattle.mysql_binding.specs.FirstCause.{first_cause};
+ghost use Rattle.mysql_binding.specs.FirstCause.{first_cause, first_float};
+ghost use Rattle.mysql_binding.specs.LiteralForm.{literal_len};
 ghost use Rattle.mysql_binding.specs.FoundPlaces.{found_places};
 ghost use Rattle.mysql_binding.specs.MeasuredText.{HasGivenLength, IsMeasured};
-ghost use Rattle.mysql_binding.specs.PlaceSpans.{IsReady, IsTextAt, StaysInRoom, after_span, span_of};
+ghost use Rattle.mysql_binding.specs.PlaceSpans.{IsReady, IsTextAt, StaysInRoom, after_span, outside_len, span_of};
+ghost use Rattle.mysql_binding.specs.PlaceValues.{placed_values};
 ghost use Rattle.mysql_binding.specs.SpannedQuery.{HasOwnSpans, RefusesNames, spanned_names};
 ghost use Rattle.mysql_binding.specs.SurveyedQuery.{OnSurveyed};
 ghost use Rattle.mysql_binding.specs.TextInRoom.{IsTextInRoom};
@@ -22,15 +24,16 @@ ghost use Rattle.mysql_binding.specs.WrittenText.{IsGivenText};
 use crate::bind_error::BindError;
 use crate::binding::form::LiteralForm;
 use crate::binding::found::all_places;
+use crate::binding::kept_values::KeptValues;
 use crate::binding::literals::{MeasuredText, append_literal};
+use crate::binding::place_values::{PlaceValues, ValueList};
 use crate::binding::room::TextInRoom;
 use crate::binding::spanned::SpannedQuery;
 use crate::binding::survey::SurveyedQuery;
 use crate::binding::text::append_piece;
-use crate::binding::{looked_up_values, measured_values};
+use crate::binding::{given_values, looked_up_values, measured_values};
 use mysql_named_params::places::FoundPlace;
-use mysql_params_core::params::{BorrowedParams, NamedValues};
-use mysql_values::value::ValueRef;
+use mysql_params_core::params::BorrowedParams;
 use std::alloc::{AllocError, Global};
 
 /// The span of a place of a query.
@@ -158,18 +161,21 @@ fn values_at<'p>(
     alloc: Global,
     spanned: &SpannedQuery<'_>,
     params: BorrowedParams<'p, '_>,
-) -> Result<Vec<ValueRef<'p>>, BindError>
+) -> Result<PlaceValues<'p>, BindError>
     ensures values { IfOk result (λ values. lookup (given_by_borrowed params.entry)
-        (spanned_names spanned.now) ≡ Ok (owned_values values.items)) }
+        (spanned_names spanned.now) ≡ Ok (placed_values values)) }
     ensures refused { IfErr result
         (IsLookupError (given_by_borrowed params.entry) (spanned_names spanned.now)) }
 {
-    if spanned.survey.names > 0 {
-        if let Some(values) = found_at(alloc, spanned, params)? {
-            return Ok(values);
-        }
+    let found = if spanned.survey.names > 0 {
+        found_at(alloc, spanned, params)?
+    } else {
+        given_values(params)
+    };
+    match found {
+        Some(values) => Ok(values),
+        None => values_of_list(alloc, spanned, params),
     }
-    values_of_list(alloc, spanned, params)
 }
 
 // The same for a query with names, if each value is found without memory. No list of the names is
@@ -178,10 +184,10 @@ fn found_at<'p>(
     alloc: Global,
     spanned: &SpannedQuery<'_>,
     params: BorrowedParams<'p, '_>,
-) -> Result<Option<Vec<ValueRef<'p>>>, AllocError>
+) -> Result<Option<PlaceValues<'p>>, AllocError>
     requires some { 0 < spanned.now.survey.names }
     ensures { IfOk result (λ found. IfSome found (λ values. lookup (given_by_borrowed params.entry)
-        (spanned_names spanned.now) ≡ Ok (owned_values values.items))) }
+        (spanned_names spanned.now) ≡ Ok (placed_values values))) }
 {
     match params {
         BorrowedParams::Named(entries) => values_in_at(alloc, spanned, entries),
@@ -198,30 +204,30 @@ fn found_at<'p>(
     }
 }
 
-// The same for one kind of map. Each kind has a loop of its own, so the kind is chosen once and not
-// for each name.
-fn values_in_at<'p, M: NamedValues>(
+// The same for one kind of parameters. Each kind has a loop of its own, so the kind is chosen once
+// and not for each name.
+fn values_in_at<'p, M: KeptValues<'p>>(
     alloc: Global,
     spanned: &SpannedQuery<'_>,
     entries: &'p M,
-) -> Result<Option<Vec<ValueRef<'p>>>, AllocError>
+) -> Result<Option<PlaceValues<'p>>, AllocError>
     requires some { 0 < spanned.now.survey.names }
     ensures { IfOk result (λ found. IfSome found (λ values.
         lookup (named (M.values entries.now)) (spanned_names spanned.now)
-        ≡ Ok (owned_values values.items))) }
+        ≡ Ok (placed_values values))) }
 {
     let spans = spanned.name_spans();
-    let mut values = Vec::with_capacity(alloc, spans.len())?;
+    let mut kept = Vec::with_capacity(alloc, spans.len())?;
     let mut rest = spanned.query;
     for span in spans {
         let (_, place, after) = span.cut(rest);
-        let Some(value) = entries.value_of(&place[1..]) else {
+        let Some(value) = entries.find(&place[1..]) else {
             return Ok(None);
         };
-        values.push(value)?;
+        kept.push(value)?;
         rest = after;
     }
-    Ok(Some(values))
+    Ok(Some(entries.placed(kept)))
 }
 
 // The same by a list of the names, which reports a name without a value.
@@ -229,9 +235,9 @@ fn values_of_list<'p>(
     alloc: Global,
     spanned: &SpannedQuery<'_>,
     params: BorrowedParams<'p, '_>,
-) -> Result<Vec<ValueRef<'p>>, BindError>
+) -> Result<PlaceValues<'p>, BindError>
     ensures values { IfOk result (λ values. lookup (given_by_borrowed params.entry)
-        (spanned_names spanned.now) ≡ Ok (owned_values values.items)) }
+        (spanned_names spanned.now) ≡ Ok (placed_values values)) }
     ensures refused { IfErr result
         (IsLookupError (given_by_borrowed params.entry) (spanned_names spanned.now)) }
 {
@@ -266,16 +272,41 @@ fn fill_spans<F: LiteralForm>(
         measured.now }
     requires room { length room.old ≡ measured.now.len }
     ensures { IsTextAt (F.literal form.now) (F.IsKnown form.now) spanned.now.spans.now
-        spanned.now.query.now (owned_values measured.now.values.items) room.new }
+        spanned.now.query.now (placed_values measured.now.values) room.new }
+{
+    let lens = measured.lens.as_slice();
+    match &measured.values {
+        PlaceValues::Positional(list) => fill_in(spanned, *list, lens, form, room),
+        PlaceValues::Values(list) => fill_in(spanned, *list, lens, form, room),
+        PlaceValues::Named(list) => fill_in(spanned, list.as_slice(), lens, form, room),
+        PlaceValues::Pairs(list) => fill_in(spanned, list, lens, form, room),
+        PlaceValues::Listed(list) => fill_in(spanned, list.as_slice(), lens, form, room),
+    }
+}
+
+// The same for one kind of list, with the lengths of the values' literals.
+fn fill_in<F: LiteralForm, L: ValueList>(
+    spanned: &SpannedQuery<'_>,
+    values: L,
+    lens: &[usize],
+    form: &F,
+    room: &mut [u8],
+)
+    requires each { length (L.values values) ≡ length spanned.now.spans.now }
+    requires no_float { first_float (L.values values) ≡ None }
+    requires lens { lens.now ≡ map (literal_len (F.literal form.now)) (L.values values) }
+    requires room { length room.old
+        ≡ outside_len spanned.now.spans.now spanned.now.query.now + sum lens.now }
+    ensures { IsTextAt (F.literal form.now) (F.IsKnown form.now) spanned.now.spans.now
+        spanned.now.query.now (L.values values) room.new }
 {
     let spans = spanned.spans;
-    let lens = measured.lens.as_slice();
     let mut rest = spanned.query;
     let mut at = 0;
-    for (i, value) in measured.values.iter().enumerate() {
+    for (i, len) in lens.iter().enumerate() {
         let (piece, _, after) = spans[i].cut(rest);
         at = append_piece(room, at, piece);
-        at = append_literal(room, at, *value, lens[i], form);
+        at = append_literal(room, at, values.at(i), *len, form);
         rest = after;
     }
     append_piece(room, at, rest);

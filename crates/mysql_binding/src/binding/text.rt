@@ -4,12 +4,12 @@ ghost use Rattle.std.specs.Prelude.{◌≡◌, ◌+◌, ◌++◌, ◌≤◌, ℕ
 ghost use Rattle.std.specs.List.{sum};
 ghost use Rattle.mysql_named_params.specs.Places.{place_count};
 ghost use Rattle.mysql_params_core.specs.Given.{Given};
-ghost use Rattle.mysql_values.specs.BorrowedValue.{owned_values};
 ghost use Rattle.mysql_binding.specs.AppendedText.{AreFound, IsAppended};
 ghost use Rattle.mysql_binding.specs.BindErrors.{IsCauseOrMemory};
 ghost use Rattle.mysql_binding.specs.FirstCause.{first_cause, first_float};
 ghost use Rattle.mysql_binding.specs.LiteralForm.{literal_len};
 ghost use Rattle.mysql_binding.specs.MeasuredText.{IsMeasured};
+ghost use Rattle.mysql_binding.specs.PlaceValues.{placed_values};
 ghost use Rattle.mysql_binding.specs.SurveyedQuery.{OnSurveyed};
 ghost use Rattle.mysql_binding.specs.TextLength.{pieces_len};
 ghost use Rattle.mysql_binding.specs.WrittenText.{IsGivenText, IsWrittenText};
@@ -19,8 +19,8 @@ use crate::binding::form::LiteralForm;
 use crate::binding::found::place_after;
 use crate::binding::literals::{MeasuredText, append_literal};
 use crate::binding::measured_values;
+use crate::binding::place_values::{PlaceValues, ValueList};
 use crate::binding::survey::SurveyedQuery;
-use mysql_values::value::ValueRef;
 use std::alloc::{AllocError, Global};
 
 /// The text of a measured query, in a vector of exactly its length.
@@ -58,13 +58,14 @@ pub fn fill_measured<F: LiteralForm>(
         OnSurveyed surveyed.now (λ ts.
         IsGivenText (F.literal form.now) (F.IsKnown form.now) ts given room.new) }
 {
-    fill_text(
-        surveyed,
-        measured.values.as_slice(),
-        measured.lens.as_slice(),
-        form,
-        room,
-    );
+    let lens = measured.lens.as_slice();
+    match &measured.values {
+        PlaceValues::Positional(list) => fill_text(surveyed, *list, lens, form, room),
+        PlaceValues::Values(list) => fill_text(surveyed, *list, lens, form, room),
+        PlaceValues::Named(list) => fill_text(surveyed, list.as_slice(), lens, form, room),
+        PlaceValues::Pairs(list) => fill_text(surveyed, list, lens, form, room),
+        PlaceValues::Listed(list) => fill_text(surveyed, list.as_slice(), lens, form, room),
+    }
 }
 
 /// Appends the text of a measured query to another text, so no vector is allocated for it.
@@ -101,17 +102,17 @@ pub(super) fn append_measured<F: LiteralForm>(
 pub fn append_surveyed<F: LiteralForm>(
     alloc: Global,
     surveyed: &SurveyedQuery<'_>,
-    values: Vec<ValueRef<'_>>,
+    values: PlaceValues<'_>,
     form: &F,
     text: &mut Vec<u8>,
 ) -> Result<(), BindError>
     requires { (given : Given) × OnSurveyed surveyed.now
-        (AreFound given (owned_values values.items)) }
+        (AreFound given (placed_values values)) }
     ensures appended { OnOk result (IsAppended (F.literal form.now) (F.IsKnown form.now)
-        surveyed.now.reading surveyed.now.query.now (owned_values values.entry.items)
+        surveyed.now.reading surveyed.now.query.now (placed_values values.entry)
         text.old.items text.new.items) }
     ensures refused { IfErr result (λ error. (given : Given) →
-        OnSurveyed surveyed.now (AreFound given (owned_values values.entry.items)) →
+        OnSurveyed surveyed.now (AreFound given (placed_values values.entry)) →
         OnSurveyed surveyed.now (λ ts. IsCauseOrMemory (first_cause ts given) error)) }
     ensures kept { OnErr result (text.new.items ≡ text.old.items) }
 {
@@ -146,32 +147,32 @@ fn fill_after<F: LiteralForm>(
 
 // Fills `text` with the pieces of the query and, between them, the literals of the values. The
 // literals have the lengths `lens`.
-fn fill_text<F: LiteralForm>(
+fn fill_text<F: LiteralForm, L: ValueList>(
     surveyed: &SurveyedQuery<'_>,
-    values: &[ValueRef<'_>],
+    values: L,
     lens: &[usize],
     form: &F,
     text: &mut [u8],
 )
-    requires no_float { first_float (owned_values values.now) ≡ None }
+    requires no_float { first_float (L.values values) ≡ None }
     requires places { OnSurveyed surveyed.now (λ ts.
-        length (owned_values values.now) ≡ place_count ts) }
-    requires lens { lens.now ≡ map (literal_len (F.literal form.now)) (owned_values values.now) }
+        length (L.values values) ≡ place_count ts) }
+    requires lens { lens.now ≡ map (literal_len (F.literal form.now)) (L.values values) }
     requires room { OnSurveyed surveyed.now (λ ts.
         length text.old ≡ pieces_len ts + sum lens.now) }
     ensures { OnSurveyed surveyed.now (λ ts.
-        IsWrittenText (F.literal form.now) (F.IsKnown form.now) ts (owned_values values.now)
+        IsWrittenText (F.literal form.now) (F.IsKnown form.now) ts (L.values values)
         text.new) }
 {
     let mut rest = surveyed.query;
     let mut at = 0;
-    for (i, value) in values.iter().enumerate() {
+    for (i, len) in lens.iter().enumerate() {
         let Some(found) = place_after(surveyed.known, i, rest, surveyed.reading) else {
             unreachable!()
         };
         let (piece, _, after) = found.cut(rest);
         at = append_piece(text, at, piece);
-        at = append_literal(text, at, *value, lens[i], form);
+        at = append_literal(text, at, values.at(i), *len, form);
         rest = after;
     }
     append_piece(text, at, rest);

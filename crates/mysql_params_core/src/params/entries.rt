@@ -1,8 +1,8 @@
 //! The entries of named parameters.
-ghost use Rattle.std.specs.Prelude.{◌≡◌, ◌<◌, ◌≤◌, ◌↔◌, Ok, IfOk, IsTrue, MatchOption, OnErr, OnOk, length, map, option_map};
+ghost use Rattle.std.specs.Prelude.{◌≡◌, ◌<◌, ◌≤◌, ◌↔◌, Ok, IfOk, IfSome, IsTrue, MatchOption, OnErr, OnOk, length, map, option_map};
 ghost use Rattle.std.specs.FinMap.{contains_key, empty, get, insert};
 ghost use Rattle.mysql_params_core.specs.Given.{ValueMap, named, value_map};
-ghost use Rattle.mysql_params_core.specs.GivenBorrowed.{pair_map};
+ghost use Rattle.mysql_params_core.specs.GivenBorrowed.{pair_map, pair_value};
 ghost use Rattle.mysql_params_core.specs.Made.{few_pairs, pairs_made, seen_pair, IsFirstRedefined};
 ghost use Rattle.mysql_values.specs.BorrowedValue.{owned};
 
@@ -110,6 +110,21 @@ impl<'p> NamedPairs<'p> {
         ensures { IsTrue result ↔ (length self.now.0.now ≤ few_pairs) }
     {
         self.0.len() <= FEW_PAIRS
+    }
+
+    /// The index of a pair that has the value of this name. A walk over the pairs finds it. For the
+    /// crates above; no user needs it.
+    pub fn index_of(&self, name: &[u8]) -> Option<usize>
+        ensures value { option_map (pair_value self.now.0.now) result
+            ≡ get (pair_map self.now.0.now) name.now }
+        ensures in_range { IfSome result (λ index. index < length self.now.0.now) }
+    {
+        for (i, pair) in self.0.iter().enumerate() {
+            if name == pair.0 {
+                return Some(i);
+            }
+        }
+        None
     }
 
     /// The index of the first pair that has the name of an earlier pair. If there is none,

@@ -1,6 +1,6 @@
 use Rattle.std.proofs.Common.{arith, refl}
 use Rattle.mysql_params_core.specs.GivenBorrowed.{given_by_borrowed}
-use Rattle.mysql_values.specs.BorrowedValue.{owned_values}
+use Rattle.mysql_binding.specs.PlaceValues.{placed_values}
 use Rattle.mysql_binding.proofs.BoundTextLemmas.{refused_mixed}
 use Rattle.mysql_binding.proofs.MeasuredTextLemmas.{measured_found, measured_refused}
 use Rattle.mysql_binding.proofs.SurveyedQueryLemmas.{found_on, on_survey, unmixed_query}
@@ -19,9 +19,9 @@ values_of_places-requires g c =
 pub returns-clause-measured : goal.returns-clause-measured
 returns-clause-measured g c =
     let surveyed = c.args.surveyed.now in
-    measured_found _ _ (g.F.LiteralForm.literal c.args.form.now) (given_by_borrowed c.args.params) surveyed.survey (owned_values c.in_ok-values.values.items) c.measured_values.result
+    measured_found _ _ (g.F.LiteralForm.literal c.args.form.now) (given_by_borrowed c.args.params) surveyed.survey (placed_values c.in_ok-values.values) c.measured_values.result
     c.measured_values.ensures.measured (on_survey _ _ surveyed.survey surveyed.surveyed)
-    (found_on _ _ (given_by_borrowed c.args.params) (owned_values c.in_ok-values.values.items)
+    (found_on _ _ (given_by_borrowed c.args.params) (placed_values c.in_ok-values.values)
     (unmixed_query _ _ surveyed.survey surveyed.surveyed
     (λ both. elim c.else-survey-gt0.branch [ else-survey-gt0-via-then-survey-gt0+else-survey-gt0-2 w ↦ omega (arith, both.1, w.if-survey-gt0-2.false) | else-survey-gt0-via-else-survey-gt0 w ↦ omega (arith, both.0, w.if-survey-gt0.false) ]))
     c.in_ok-values.ensures.values)
@@ -29,9 +29,9 @@ returns-clause-measured g c =
 pub returns-clause-refused : goal.returns-clause-refused
 returns-clause-refused g c =
     let surveyed = c.args.surveyed.now in
-    measured_refused _ _ (given_by_borrowed c.args.params) surveyed.survey (owned_values c.in_ok-values.values.items) c.measured_values.result
+    measured_refused _ _ (given_by_borrowed c.args.params) surveyed.survey (placed_values c.in_ok-values.values) c.measured_values.result
     c.measured_values.ensures.refused (on_survey _ _ surveyed.survey surveyed.surveyed)
-    (found_on _ _ (given_by_borrowed c.args.params) (owned_values c.in_ok-values.values.items)
+    (found_on _ _ (given_by_borrowed c.args.params) (placed_values c.in_ok-values.values)
     (unmixed_query _ _ surveyed.survey surveyed.surveyed
     (λ both. elim c.else-survey-gt0.branch [ else-survey-gt0-via-then-survey-gt0+else-survey-gt0-2 w ↦ omega (arith, both.1, w.if-survey-gt0-2.false) | else-survey-gt0-via-else-survey-gt0 w ↦ omega (arith, both.0, w.if-survey-gt0.false) ]))
     c.in_ok-values.ensures.values)

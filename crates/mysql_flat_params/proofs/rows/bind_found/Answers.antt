@@ -16,7 +16,7 @@ pub bind_outcome-requires : goal.bind_outcome-requires
 bind_outcome-requires c = (
   named (pair_map c.args.found.pairs.items),
   c.in-Err.ensures.refused c.args.surveyed.now.reading c.args.surveyed.now.query.now (named (pair_map c.args.found.pairs.items)) (on_survey _ _ _ c.args.surveyed.now.surveyed)
-      (found_in_query c.args.surveyed.now.reading c.args.surveyed.now.query.now c.args.found c.in-Some.values.items c.requires.found c.in-Some.ensures),
+      (rw c.as_slice.ensures.value (found_in_query c.args.surveyed.now.reading c.args.surveyed.now.query.now c.args.found c.in-Some.values.items c.requires.found c.in-Some.ensures)),
 )
 
 pub fill_string-outcome-requires : goal.fill_string-outcome-requires
@@ -24,7 +24,7 @@ fill_string-outcome-requires c = record {
   measured = (
     named (pair_map c.args.found.pairs.items),
     c.in-Ok.ensures.measured c.args.surveyed.now.reading c.args.surveyed.now.query.now (named (pair_map c.args.found.pairs.items)) (on_survey _ _ _ c.args.surveyed.now.surveyed)
-        (found_in_query c.args.surveyed.now.reading c.args.surveyed.now.query.now c.args.found c.in-Some.values.items c.requires.found c.in-Some.ensures),
+        (rw c.as_slice.ensures.value (found_in_query c.args.surveyed.now.reading c.args.surveyed.now.query.now c.args.found c.in-Some.values.items c.requires.found c.in-Some.ensures)),
   );
 }
 
@@ -33,7 +33,7 @@ returns-in-Err-clause-form c = λ form reads.
     refused_in_room c.args.surveyed.now.reading c.args.surveyed.now.query.now form c.args.room.now c.bind_outcome.result c.bind_outcome.ensures.no_answer
     (c.bind_outcome.ensures.outcome form (named (pair_map c.args.found.pairs.items)) reads
     (c.in-Err.ensures.refused c.args.surveyed.now.reading c.args.surveyed.now.query.now (named (pair_map c.args.found.pairs.items)) (on_survey _ _ _ c.args.surveyed.now.surveyed)
-    (found_in_query c.args.surveyed.now.reading c.args.surveyed.now.query.now c.args.found c.in-Some.values.items c.requires.found c.in-Some.ensures)))
+    (rw c.as_slice.ensures.value (found_in_query c.args.surveyed.now.reading c.args.surveyed.now.query.now c.args.found c.in-Some.values.items c.requires.found c.in-Some.ensures))))
 
 pub returns-clause-form : goal.returns-clause-form
 returns-clause-form c = λ form reads.
@@ -41,4 +41,4 @@ returns-clause-form c = λ form reads.
     c.fill_string-outcome.result
     (c.fill_string-outcome.ensures (named (pair_map c.args.found.pairs.items))
     (c.in-Ok.ensures.measured c.args.surveyed.now.reading c.args.surveyed.now.query.now (named (pair_map c.args.found.pairs.items)) (on_survey _ _ _ c.args.surveyed.now.surveyed)
-    (found_in_query c.args.surveyed.now.reading c.args.surveyed.now.query.now c.args.found c.in-Some.values.items c.requires.found c.in-Some.ensures)))
+    (rw c.as_slice.ensures.value (found_in_query c.args.surveyed.now.reading c.args.surveyed.now.query.now c.args.found c.in-Some.values.items c.requires.found c.in-Some.ensures))))

@@ -1,6 +1,6 @@
 use Rattle.std.proofs.Common.{arith}
 use Rattle.mysql_params_core.specs.GivenBorrowed.{given_by_borrowed}
-use Rattle.mysql_values.specs.BorrowedValue.{owned_values}
+use Rattle.mysql_binding.specs.PlaceValues.{placed_values}
 use Rattle.mysql_binding.specs.BindErrors.{IsCauseOrMemory}
 use Rattle.mysql_binding.specs.FirstCause.{first_cause}
 use Rattle.mysql_binding.specs.SpannedQuery.{RefusesNames}
@@ -25,22 +25,22 @@ returns-in_err-values-clause-lookup g c =
 
 pub returns-clause-measured : goal.returns-clause-measured
 returns-clause-measured g c = λ reading own.
-    measured_found reading c.args.spanned.now.query.now (g.F.LiteralForm.literal c.args.form.now) (given_by_borrowed c.args.params) c.args.spanned.now.survey (owned_values c.in_ok-values.values.items) c.measured_values.result
+    measured_found reading c.args.spanned.now.query.now (g.F.LiteralForm.literal c.args.form.now) (given_by_borrowed c.args.params) c.args.spanned.now.survey (placed_values c.in_ok-values.values) c.measured_values.result
     c.measured_values.ensures.measured (own_surveyed c.args.spanned.now.survey c.args.spanned.now.spans.now reading c.args.spanned.now.query.now own)
     (own_found c.args.spanned.now.survey c.args.spanned.now.spans.now reading c.args.spanned.now.query.now own
     (λ both. elim c.else-survey-gt0.branch as (λ _. ⊥) [ else-survey-gt0-via-then-survey-gt0+else-survey-gt0-2 w ↦ omega (arith, both.1, w.if-survey-gt0-2.false) | else-survey-gt0-via-else-survey-gt0 w ↦ omega (arith, both.0, w.if-survey-gt0.false) ])
-    (given_by_borrowed c.args.params) (owned_values c.in_ok-values.values.items) c.in_ok-values.ensures.values)
+    (given_by_borrowed c.args.params) (placed_values c.in_ok-values.values) c.in_ok-values.ensures.values)
 
 pub returns-clause-refused : goal.returns-clause-refused
 returns-clause-refused g c = λ reading own.
-    measured_refused reading c.args.spanned.now.query.now (given_by_borrowed c.args.params) c.args.spanned.now.survey (owned_values c.in_ok-values.values.items) c.measured_values.result
+    measured_refused reading c.args.spanned.now.query.now (given_by_borrowed c.args.params) c.args.spanned.now.survey (placed_values c.in_ok-values.values) c.measured_values.result
     c.measured_values.ensures.refused (own_surveyed c.args.spanned.now.survey c.args.spanned.now.spans.now reading c.args.spanned.now.query.now own)
     (own_found c.args.spanned.now.survey c.args.spanned.now.spans.now reading c.args.spanned.now.query.now own
     (λ both. elim c.else-survey-gt0.branch as (λ _. ⊥) [ else-survey-gt0-via-then-survey-gt0+else-survey-gt0-2 w ↦ omega (arith, both.1, w.if-survey-gt0-2.false) | else-survey-gt0-via-else-survey-gt0 w ↦ omega (arith, both.0, w.if-survey-gt0.false) ])
-    (given_by_borrowed c.args.params) (owned_values c.in_ok-values.values.items) c.in_ok-values.ensures.values)
+    (given_by_borrowed c.args.params) (placed_values c.in_ok-values.values) c.in_ok-values.ensures.values)
 
 pub returns-clause-ready : goal.returns-clause-ready
 returns-clause-ready g c =
-    ready_spans (g.F.LiteralForm.literal c.args.form.now) c.args.spanned.now (given_by_borrowed c.args.params) (owned_values c.in_ok-values.values.items)
+    ready_spans (g.F.LiteralForm.literal c.args.form.now) c.args.spanned.now (given_by_borrowed c.args.params) (placed_values c.in_ok-values.values)
     (λ both. elim c.else-survey-gt0.branch as (λ _. ⊥) [ else-survey-gt0-via-then-survey-gt0+else-survey-gt0-2 w ↦ omega (arith, both.1, w.if-survey-gt0-2.false) | else-survey-gt0-via-else-survey-gt0 w ↦ omega (arith, both.0, w.if-survey-gt0.false) ])
     c.in_ok-values.ensures.values c.measured_values.result c.measured_values.ensures.in_survey

@@ -1,9 +1,9 @@
 use Rattle.std.proofs.Common.{◌+◌, drop, refl, rules, arith}
-use Rattle.mysql_value_core.specs.declared.value.ValueRef.TheVariants.{NULL}
+use Rattle.mysql_values.specs.declared.value.Value.TheVariants.{NULL}
 use Rattle.mysql_binding.specs.FoundPlaces.{BeginWithPlaces}
 use Rattle.mysql_binding.proofs.FoundPlacesLemmas.{rest_after}
 use Rattle.mysql_binding.proofs.WrittenTextLemmas.{written_none}
-use Rattle.mysql_binding.proofs.FilledTextLemmas.{item_is, fill_place_left, fill_no_float, fill_len, piece_fits, literal_fits, filled_more, last_fits, filled_all}
+use Rattle.mysql_binding.proofs.FilledTextLemmas.{value_read, below_lens, after_lens, fill_place_left, fill_no_float, fill_len, piece_fits, literal_fits, filled_more, last_fits, filled_all}
 use Rattle.mysql_binding.proofs.SurveyedQueryLemmas.{begin_with}
 use Rattle.mysql_binding.proofs.binding.text.fill_text.Goals as goal
 
@@ -19,39 +19,42 @@ loop-i-init g c = (
 pub unreachable-requires : goal.unreachable-requires
 unreachable-requires g c =
     let o = c.in_default.ensures.none in
-    fill_place_left _ _ _ _ _ _ _ _ _ c.loop-i.invariant.0 c.loop-i-test.true (o.0, o.1, o.2 refl)
+    fill_place_left _ _ _ _ _ _ _ _ _ c.loop-i.invariant.0 (below_lens (g.F.LiteralForm.literal c.args.form.now) (g.L.ValueList.values c.args.values) c.args.lens.now c.loop-i.i c.requires.lens c.loop-i-test.true) (o.0, o.1, o.2 refl)
 
 pub append_piece-at-requires : goal.append_piece-at-requires
 append_piece-at-requires g c =
-    piece_fits _ _ _ _ _ _ _ _ _ c.loop-i.invariant.0 c.loop-i-test.true _ (item_is c.args.values.now c.args.values.now c.loop-i.i NULL c.loop-i-test.true refl) _ c.in-Some.ensures.place _ c.cut.ensures.before
+    piece_fits _ _ _ _ _ _ _ _ _ c.loop-i.invariant.0 (below_lens (g.F.LiteralForm.literal c.args.form.now) (g.L.ValueList.values c.args.values) c.args.lens.now c.loop-i.i c.requires.lens c.loop-i-test.true) _ (value_read (g.L.ValueList.values c.args.values) c.loop-i.i _ NULL (below_lens (g.F.LiteralForm.literal c.args.form.now) (g.L.ValueList.values c.args.values) c.args.lens.now c.loop-i.i c.requires.lens c.loop-i-test.true) refl) _ c.in-Some.ensures.place _ c.cut.ensures.before
 
 pub append_literal-at-requires-clause-no_float : goal.append_literal-at-requires-clause-no_float
 append_literal-at-requires-clause-no_float g c =
-    fill_no_float _ _ _ _ _ _ _ _ _ c.loop-i.invariant.0 c.loop-i-test.true _ (item_is c.args.values.now c.args.values.now c.loop-i.i NULL c.loop-i-test.true refl)
+    fill_no_float _ _ _ _ _ _ _ _ _ c.loop-i.invariant.0 (below_lens (g.F.LiteralForm.literal c.args.form.now) (g.L.ValueList.values c.args.values) c.args.lens.now c.loop-i.i c.requires.lens c.loop-i-test.true) _ (value_read (g.L.ValueList.values c.args.values) c.loop-i.i _ NULL (below_lens (g.F.LiteralForm.literal c.args.form.now) (g.L.ValueList.values c.args.values) c.args.lens.now c.loop-i.i c.requires.lens c.loop-i-test.true) c.at.ensures)
 
 pub append_literal-at-requires-clause-len : goal.append_literal-at-requires-clause-len
 append_literal-at-requires-clause-len g c =
-    fill_len _ _ _ _ _ _ _ _ _ c.loop-i.invariant.0 c.loop-i-test.true _ (item_is c.args.values.now c.args.values.now c.loop-i.i NULL c.loop-i-test.true refl) _ c.requires.lens
+    fill_len _ _ _ _ _ _ _ _ _ c.loop-i.invariant.0 (below_lens (g.F.LiteralForm.literal c.args.form.now) (g.L.ValueList.values c.args.values) c.args.lens.now c.loop-i.i c.requires.lens c.loop-i-test.true) _ (value_read (g.L.ValueList.values c.args.values) c.loop-i.i _ NULL (below_lens (g.F.LiteralForm.literal c.args.form.now) (g.L.ValueList.values c.args.values) c.args.lens.now c.loop-i.i c.requires.lens c.loop-i-test.true) c.at.ensures) _ c.requires.lens
 
 pub append_literal-at-requires-clause-room : goal.append_literal-at-requires-clause-room
 append_literal-at-requires-clause-room g c =
-    literal_fits _ _ _ _ _ _ _ _ _ c.loop-i.invariant.0 c.loop-i-test.true _ (item_is c.args.values.now c.args.values.now c.loop-i.i NULL c.loop-i-test.true refl) _ c.in-Some.ensures.place _ c.cut.ensures.before
+    literal_fits _ _ _ _ _ _ _ _ _ c.loop-i.invariant.0 (below_lens (g.F.LiteralForm.literal c.args.form.now) (g.L.ValueList.values c.args.values) c.args.lens.now c.loop-i.i c.requires.lens c.loop-i-test.true) _ (value_read (g.L.ValueList.values c.args.values) c.loop-i.i _ NULL (below_lens (g.F.LiteralForm.literal c.args.form.now) (g.L.ValueList.values c.args.values) c.args.lens.now c.loop-i.i c.requires.lens c.loop-i-test.true) c.at.ensures) _ c.in-Some.ensures.place _ c.cut.ensures.before
     _ _ c.append_piece-at.ensures.next (search rules) c.append_piece-at.ensures.front _
-    (fill_len _ _ _ _ _ _ _ _ _ c.loop-i.invariant.0 c.loop-i-test.true _ (item_is c.args.values.now c.args.values.now c.loop-i.i NULL c.loop-i-test.true refl) _ c.requires.lens)
+    (fill_len _ _ _ _ _ _ _ _ _ c.loop-i.invariant.0 (below_lens (g.F.LiteralForm.literal c.args.form.now) (g.L.ValueList.values c.args.values) c.args.lens.now c.loop-i.i c.requires.lens c.loop-i-test.true) _ (value_read (g.L.ValueList.values c.args.values) c.loop-i.i _ NULL (below_lens (g.F.LiteralForm.literal c.args.form.now) (g.L.ValueList.values c.args.values) c.args.lens.now c.loop-i.i c.requires.lens c.loop-i-test.true) c.at.ensures) _ c.requires.lens)
 
 pub loop-i-preserved : goal.loop-i-preserved
 loop-i-preserved g c = (
-  filled_more _ _ _ _ _ _ _ _ _ c.loop-i.invariant.0 c.loop-i-test.true _ (item_is c.args.values.now c.args.values.now c.loop-i.i NULL c.loop-i-test.true refl) _ c.in-Some.ensures.place _ c.cut.ensures.before
+  filled_more _ _ _ _ _ _ _ _ _ c.loop-i.invariant.0 (below_lens (g.F.LiteralForm.literal c.args.form.now) (g.L.ValueList.values c.args.values) c.args.lens.now c.loop-i.i c.requires.lens c.loop-i-test.true) _ (value_read (g.L.ValueList.values c.args.values) c.loop-i.i _ NULL (below_lens (g.F.LiteralForm.literal c.args.form.now) (g.L.ValueList.values c.args.values) c.args.lens.now c.loop-i.i c.requires.lens c.loop-i-test.true) c.at.ensures) _ c.in-Some.ensures.place _ c.cut.ensures.before
       _ _ c.append_piece-at.ensures.next (search rules) c.append_piece-at.ensures.front _ _ _ _ c.cut.ensures.after
-      (fill_len _ _ _ _ _ _ _ _ _ c.loop-i.invariant.0 c.loop-i-test.true _ (item_is c.args.values.now c.args.values.now c.loop-i.i NULL c.loop-i-test.true refl) _ c.requires.lens)
+      (fill_len _ _ _ _ _ _ _ _ _ c.loop-i.invariant.0 (below_lens (g.F.LiteralForm.literal c.args.form.now) (g.L.ValueList.values c.args.values) c.args.lens.now c.loop-i.i c.requires.lens c.loop-i-test.true) _ (value_read (g.L.ValueList.values c.args.values) c.loop-i.i _ NULL (below_lens (g.F.LiteralForm.literal c.args.form.now) (g.L.ValueList.values c.args.values) c.args.lens.now c.loop-i.i c.requires.lens c.loop-i-test.true) c.at.ensures) _ c.requires.lens)
       c.append_literal-at.ensures.next (search rules) c.append_literal-at.ensures.literal c.append_literal-at.ensures.known
       c.append_literal-at.ensures.front,
   rest_after c.args.surveyed.now.reading c.loop-i.rest.now _ (c.in-Some.found.before + c.in-Some.found.len) (BeginWithPlaces (drop (c.loop-i.i + 1) c.args.surveyed.now.known.now)) c.cut.ensures.after c.in-Some.ensures.next,
 )
 
 pub append_piece-requires : goal.append_piece-requires
-append_piece-requires g c = omega (arith, last_fits _ _ _ _ _ _ _ _ _ c.loop-i.invariant.0 c.loop-i-test.false)
+append_piece-requires g c = omega (arith, last_fits _ _ _ _ _ _ _ _ _ c.loop-i.invariant.0 (after_lens (g.F.LiteralForm.literal c.args.form.now) (g.L.ValueList.values c.args.values) c.args.lens.now c.loop-i.i c.requires.lens c.loop-i-test.false))
 
 pub returns : goal.returns
 returns g c =
-    filled_all _ _ _ _ _ _ _ _ _ c.loop-i.invariant.0 c.loop-i-test.false _ _ c.append_piece.ensures.next (search rules) c.append_piece.ensures.front
+    filled_all _ _ _ _ _ _ _ _ _ c.loop-i.invariant.0 (after_lens (g.F.LiteralForm.literal c.args.form.now) (g.L.ValueList.values c.args.values) c.args.lens.now c.loop-i.i c.requires.lens c.loop-i-test.false) _ _ c.append_piece.ensures.next (search rules) c.append_piece.ensures.front
+
+pub at-requires : goal.at-requires
+at-requires g c = below_lens (g.F.LiteralForm.literal c.args.form.now) (g.L.ValueList.values c.args.values) c.args.lens.now c.loop-i.i c.requires.lens c.loop-i-test.true

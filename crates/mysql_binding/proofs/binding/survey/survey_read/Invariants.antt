@@ -1,7 +1,7 @@
 use Rattle.std.proofs.Common.{length, ◌-◌}
 use Rattle.mysql_binding.proofs.FoundPlacesLemmas.{KeptSoFar}
 use Rattle.mysql_binding.proofs.SurveyLemmas.{SurveyedSoFar}
-use Rattle.mysql_binding.proofs.binding.survey.place_survey.Given as goal
+use Rattle.mysql_binding.proofs.binding.survey.survey_read.Given as goal
 
 abbrev pub invariant-loop-found : goal.invariant-loop-found
 invariant-loop-found l =

@@ -1,7 +1,7 @@
 use Rattle.std.proofs.Common.{◌+◌, refl, arith}
 use Rattle.mysql_binding.proofs.FoundPlacesLemmas.{none_passed, one_passed, collected_none, place_left, collected_more, collected_all}
 use Rattle.mysql_binding.proofs.SurveyedQueryLemmas.{begin_with, counted_places}
-use Rattle.mysql_binding.proofs.binding.found.all_places.Goals as goal
+use Rattle.mysql_binding.proofs.binding.found.all_places_of.Goals as goal
 
 pub loop-rest-init : goal.loop-rest-init
 loop-rest-init c =

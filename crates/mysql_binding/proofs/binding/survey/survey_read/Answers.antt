@@ -3,8 +3,8 @@ use Rattle.std.specs.Option.{option_or}
 use Rattle.std.proofs.lemmas.List.{take_rest}
 use Rattle.mysql_binding.proofs.FoundPlacesLemmas.{kept_none, kept_full, kept_more, kept_all}
 use Rattle.mysql_binding.proofs.SurveyLemmas.{surveyed_none, surveyed_name, surveyed_mark, surveyed_all}
-use Rattle.mysql_binding.proofs.binding.survey.place_survey.Goals as goal
-use Rattle.mysql_binding.proofs.binding.survey.place_survey.Goals.{in-Name, in-Mark}
+use Rattle.mysql_binding.proofs.binding.survey.survey_read.Goals as goal
+use Rattle.mysql_binding.proofs.binding.survey.survey_read.Goals.{in-Name, in-Mark}
 
 pub loop-found-init : goal.loop-found-init
 loop-found-init c = (surveyed_none _ _, kept_none _ _ _)

@@ -2,7 +2,7 @@ use Rattle.std.proofs.Common.{length, ◌-◌, drop}
 use Rattle.mysql_named_params.specs.Reading.{OnTokensIn}
 use Rattle.mysql_binding.specs.FoundPlaces.{BeginWithPlaces}
 use Rattle.mysql_binding.proofs.FoundPlacesLemmas.{CollectedSoFar}
-use Rattle.mysql_binding.proofs.binding.found.all_places.Given as goal
+use Rattle.mysql_binding.proofs.binding.found.all_places_of.Given as goal
 
 abbrev pub invariant-loop-rest : goal.invariant-loop-rest
 invariant-loop-rest l =

@@ -1,0 +1,33 @@
+use Rattle.std.proofs.Common.{rules}
+use Rattle.mysql_values.specs.declared.value.Value.TheVariants.{NULL}
+use Rattle.mysql_binding.proofs.FilledTextLemmas.{value_read, below_lens, after_lens}
+use Rattle.mysql_binding.proofs.SpanTextLemmas.{value_no_float, value_len, span_literal_fits, spans_filled_more, spans_filled_all}
+use Rattle.mysql_binding.proofs.binding.spans.fill_in.Goals as goal
+
+pub at-requires : goal.at-requires
+at-requires g c = below_lens (g.F.LiteralForm.literal c.args.form.now) (g.L.ValueList.values c.args.values) c.args.lens.now c.loop-i.i c.requires.lens c.loop-i-test.true
+
+pub append_literal-at-requires-clause-no_float : goal.append_literal-at-requires-clause-no_float
+append_literal-at-requires-clause-no_float g c =
+    value_no_float _ _ _ _ _ _ _ _ _ c.loop-i.invariant (below_lens (g.F.LiteralForm.literal c.args.form.now) (g.L.ValueList.values c.args.values) c.args.lens.now c.loop-i.i c.requires.lens c.loop-i-test.true) _ (value_read (g.L.ValueList.values c.args.values) c.loop-i.i _ NULL (below_lens (g.F.LiteralForm.literal c.args.form.now) (g.L.ValueList.values c.args.values) c.args.lens.now c.loop-i.i c.requires.lens c.loop-i-test.true) c.at.ensures)
+
+pub append_literal-at-requires-clause-len : goal.append_literal-at-requires-clause-len
+append_literal-at-requires-clause-len g c =
+    value_len _ _ _ _ _ _ _ _ _ c.loop-i.invariant (below_lens (g.F.LiteralForm.literal c.args.form.now) (g.L.ValueList.values c.args.values) c.args.lens.now c.loop-i.i c.requires.lens c.loop-i-test.true) _ (value_read (g.L.ValueList.values c.args.values) c.loop-i.i _ NULL (below_lens (g.F.LiteralForm.literal c.args.form.now) (g.L.ValueList.values c.args.values) c.args.lens.now c.loop-i.i c.requires.lens c.loop-i-test.true) c.at.ensures) _ c.requires.lens
+
+pub append_literal-at-requires-clause-room : goal.append_literal-at-requires-clause-room
+append_literal-at-requires-clause-room g c =
+    span_literal_fits _ _ _ _ _ _ _ _ _ c.loop-i.invariant (below_lens (g.F.LiteralForm.literal c.args.form.now) (g.L.ValueList.values c.args.values) c.args.lens.now c.loop-i.i c.requires.lens c.loop-i-test.true) _ (value_read (g.L.ValueList.values c.args.values) c.loop-i.i _ NULL (below_lens (g.F.LiteralForm.literal c.args.form.now) (g.L.ValueList.values c.args.values) c.args.lens.now c.loop-i.i c.requires.lens c.loop-i-test.true) c.at.ensures) _ _ c.cut.ensures.before
+    _ _ c.append_piece-at.ensures.next (search rules) c.append_piece-at.ensures.front _
+    (value_len _ _ _ _ _ _ _ _ _ c.loop-i.invariant (below_lens (g.F.LiteralForm.literal c.args.form.now) (g.L.ValueList.values c.args.values) c.args.lens.now c.loop-i.i c.requires.lens c.loop-i-test.true) _ (value_read (g.L.ValueList.values c.args.values) c.loop-i.i _ NULL (below_lens (g.F.LiteralForm.literal c.args.form.now) (g.L.ValueList.values c.args.values) c.args.lens.now c.loop-i.i c.requires.lens c.loop-i-test.true) c.at.ensures) _ c.requires.lens)
+
+pub loop-i-preserved : goal.loop-i-preserved
+loop-i-preserved g c =
+    spans_filled_more _ _ _ _ _ _ _ _ _ c.loop-i.invariant (below_lens (g.F.LiteralForm.literal c.args.form.now) (g.L.ValueList.values c.args.values) c.args.lens.now c.loop-i.i c.requires.lens c.loop-i-test.true) _ (value_read (g.L.ValueList.values c.args.values) c.loop-i.i _ NULL (below_lens (g.F.LiteralForm.literal c.args.form.now) (g.L.ValueList.values c.args.values) c.args.lens.now c.loop-i.i c.requires.lens c.loop-i-test.true) c.at.ensures) _ _ c.cut.ensures.before
+    _ _ c.append_piece-at.ensures.next (search rules) c.append_piece-at.ensures.front _ _ _ _ c.cut.ensures.after
+    (value_len _ _ _ _ _ _ _ _ _ c.loop-i.invariant (below_lens (g.F.LiteralForm.literal c.args.form.now) (g.L.ValueList.values c.args.values) c.args.lens.now c.loop-i.i c.requires.lens c.loop-i-test.true) _ (value_read (g.L.ValueList.values c.args.values) c.loop-i.i _ NULL (below_lens (g.F.LiteralForm.literal c.args.form.now) (g.L.ValueList.values c.args.values) c.args.lens.now c.loop-i.i c.requires.lens c.loop-i-test.true) c.at.ensures) _ c.requires.lens)
+    c.append_literal-at.ensures.next (search rules) c.append_literal-at.ensures.literal c.append_literal-at.ensures.known c.append_literal-at.ensures.front
+
+pub returns : goal.returns
+returns g c =
+    spans_filled_all _ _ _ _ _ _ _ _ _ c.loop-i.invariant (after_lens (g.F.LiteralForm.literal c.args.form.now) (g.L.ValueList.values c.args.values) c.args.lens.now c.loop-i.i c.requires.lens c.loop-i-test.false) _ _ c.append_piece.ensures.next (search rules) c.append_piece.ensures.front
