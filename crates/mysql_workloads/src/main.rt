@@ -8,8 +8,14 @@
 mod awkward;
 mod batches;
 mod borrowed;
+mod cells;
 mod digest;
+mod escapes;
+mod first_turn;
+mod number_list;
+mod parsed_again;
 mod pools;
+mod query_tests;
 mod random;
 mod requests;
 mod requests_ref;
@@ -17,6 +23,10 @@ mod rows_in;
 mod rows_in_ref;
 mod rows_out;
 mod scripts;
+mod some_values;
+mod steady_text;
+mod thousand_names;
+mod written_values;
 
 use crate::digest::Digest;
 use crate::pools::Pools;
@@ -25,7 +35,7 @@ use std::alloc::AllocError;
 use std::process::ExitCode;
 use std::{env, io};
 
-const JOBS: [&str; 8] = [
+const JOBS: [&str; 17] = [
     "rows_in",
     "rows_out",
     "batches",
@@ -34,6 +44,15 @@ const JOBS: [&str; 8] = [
     "awkward",
     "rows_in_ref",
     "requests_ref",
+    "parsed_again",
+    "thousand_names",
+    "number_list",
+    "steady_text",
+    "portable_test",
+    "client_test",
+    "written_values",
+    "cells",
+    "escapes",
 ];
 
 // The digest of a job.
@@ -50,6 +69,21 @@ fn job(rt: &HostRuntime, name: &str, seed: u64, size: usize) -> Result<u64, Allo
         "rows_in_ref" => rows_in_ref::run(alloc, &mut random, &pools, size, &mut digest)?,
         "requests_ref" => requests_ref::run(alloc, &mut random, &pools, size, &mut digest)?,
         "scripts" => scripts::run(alloc, &mut random, &pools, size, &mut digest)?,
+        "parsed_again" => parsed_again::run(alloc, &mut random, &pools, size, &mut digest)?,
+        "thousand_names" => thousand_names::run(alloc, &mut random, &pools, size, &mut digest)?,
+        "number_list" => number_list::run(alloc, &mut random, size, &mut digest)?,
+        "steady_text" => steady_text::run(alloc, &mut random, &pools, size, &mut digest)?,
+        "portable_test" => query_tests::run_portable(
+            alloc,
+            &mut random,
+            &pools,
+            size,
+            &mut digest,
+        )?,
+        "client_test" => query_tests::run_client(alloc, &mut random, &pools, size, &mut digest)?,
+        "written_values" => written_values::run(alloc, &mut random, &pools, size, &mut digest)?,
+        "cells" => cells::run(alloc, &mut random, &pools, size, &mut digest)?,
+        "escapes" => escapes::run(alloc, &mut random, size, &mut digest)?,
         _ => awkward::run(alloc, &mut random, &pools, size, &mut digest)?,
     }
     Ok(digest.state)
