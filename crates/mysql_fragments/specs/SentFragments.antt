@@ -1,5 +1,5 @@
--- Texts of fragments that a client sends as they are, also at the front of a statement: they begin
--- with no letter. Keywords do, and `USE` at the front of a statement is a client's command.
+-- Texts of fragments with which no command of a client begins, also at the front of a statement:
+-- they begin with no letter. Keywords do, and `USE` at the front of a statement is a command.
 use Rattle.std.specs.Prelude.{◌==◌, ◌&&◌, ◌||◌, nat_le, not, ℕ, Bool, true, IsTrue, List, [], ◌∷◌, ⊤}
 use Rattle.std.specs.Str.{byte}
 use Rattle.mysql_named_params.specs.Bytes.{underscore}

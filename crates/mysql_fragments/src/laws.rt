@@ -158,8 +158,8 @@ pub fn bound_fragments_on_servers()
     bound_texts_on_servers();
 }
 
-/// If a client sends the query as it is, and no fragment has a byte 0 or a newline or begins with a
-/// letter, as keywords do, the client also sends the text as it is.
+/// If a query has none of the constructs of a client, and no fragment has a byte 0 or a newline or
+/// begins with a letter, as keywords do, the text has none of these constructs either.
 pub fn fragments_are_sent()
     ensures { (mode : Bool) (query text : List ℕ) (ts : List Token) (counts : List ℕ)
         (texts : List (List ℕ)) (lists : List (List Token)) → IsTokens mode query ts →

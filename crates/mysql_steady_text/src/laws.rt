@@ -153,9 +153,9 @@ pub fn bound_steady_texts_in_clients()
     steady_texts_in_clients();
 }
 
-/// If a client sends the query as it is, and no literal has a newline or a byte 0, it also sends
-/// the text as it is (`sent`). If the query is also portable in the client, so is the text
-/// (`portable`).
+/// If a query has none of the constructs of a client, and no literal a newline or a byte 0, the
+/// text has none of these constructs either (`sent`). If the query is also portable in the client,
+/// so is the text (`portable`).
 pub fn steady_texts_are_sent()
     ensures sent { (mode : Bool) (query text : List ℕ) (ts : List Token)
         (literals : List (List ℕ)) (lists : List (List Token)) → IsTokens mode query ts →
