@@ -14,6 +14,7 @@ pub mod WideSteadyLemmas
 pub mod WideBothModesLemmas
 pub mod PairsLemmas
 pub mod GuardedFormLemmas
+pub mod GuardedRunLemmas
 pub mod ReadInLemmas
 pub mod GuardedLiteralLemmas
 pub mod GuardedSpliceLemmas

@@ -1,6 +1,6 @@
 //! The length of a guarded literal, a slice that is filled with it, and the form of literals that
 //! writes them.
-ghost use Rattle.std.specs.Prelude.{◌≡◌, [], ◌∷◌, ◌++◌, ◌+◌, ◌*◌, ◌<◌, ◌≤◌, take, codes, false, length, Some, is_none, option_map, refl};
+ghost use Rattle.std.specs.Prelude.{◌≡◌, [], ◌∷◌, ◌++◌, ◌+◌, ◌-◌, ◌*◌, ◌<◌, ◌≤◌, ◌&&◌, nat_le, nat_lt, slice_index, take, codes, false, length, Some, is_none, option_map, refl};
 ghost use Rattle.std.specs.List.{list_all};
 ghost use Rattle.mysql_sql_text.specs.LiteralText.{hexadecimal, quoted};
 ghost use Rattle.mysql_values.specs.BorrowedValue.{owned};
@@ -11,6 +11,7 @@ ghost use Rattle.mysql_steady_text.specs.GuardedLiteral.{guarded, guarded_byte, 
 ghost use Rattle.mysql_steady_text.specs.GuardedLiterals.{IsGuardedFor};
 
 use crate::laws::{borrowed_guarded_literals, guarded_literals};
+use memchr::memchr2;
 use mysql_binding::LiteralForm;
 use mysql_sql_text::strings::{fill_hexadecimal, fill_string, string_len};
 use mysql_sql_text::utf8::is_utf8;
@@ -106,12 +107,20 @@ fn guarded_len(bytes: &[u8]) -> u128
     ensures few { result ≤ 5 * length bytes.now }
 {
     let mut len = 0;
-    let mut high = false;
-    for byte in bytes {
-        len += guarded_byte_len(high, *byte);
-        high = 128 <= *byte;
+    let mut rest = bytes;
+    while let Some(run) = memchr2(b'\'', b'\\', rest) {
+        len += run as u128 + guarded_byte_len(is_after_high(rest, run), rest[run]);
+        rest = &rest[run + 1..];
     }
-    len
+    len + rest.len() as u128
+}
+
+// Whether a byte from 128 on is directly before the index.
+fn is_after_high(bytes: &[u8], at: usize) -> bool
+    requires { at ≤ length bytes.now }
+    ensures { result ≡ (nat_lt 0 at && nat_le 128 (slice_index bytes.now (at - 1))) }
+{
+    at > 0 && 128 <= bytes[at - 1]
 }
 
 // The length of a byte of guarded strings.
@@ -125,19 +134,31 @@ fn guarded_byte_len(high: bool, byte: u8) -> u128
     if byte == b'\'' || byte == b'\\' { 2 } else { 1 }
 }
 
-// Appends the bytes of guarded strings.
+// Appends the bytes of guarded strings. Those between quotes and backslashes are copied at once.
 fn append_guarded(buffer: &mut [u8], start: usize, bytes: &[u8]) -> usize
     requires { start + length (guarded false bytes.now) ≤ length buffer.old }
     ensures next { result ≡ start + length (guarded false bytes.now) }
     ensures front { take result buffer.new ≡ take start buffer.old ++ guarded false bytes.now }
 {
     let mut at = start;
-    let mut high = false;
-    for byte in bytes {
-        at = append_guarded_byte(buffer, at, high, *byte);
-        high = 128 <= *byte;
+    let mut rest = bytes;
+    while let Some(run) = memchr2(b'\'', b'\\', rest) {
+        at = append_bytes(buffer, at, &rest[..run]);
+        at = append_guarded_byte(buffer, at, is_after_high(rest, run), rest[run]);
+        rest = &rest[run + 1..];
     }
-    at
+    append_bytes(buffer, at, rest)
+}
+
+// Appends bytes as they are.
+fn append_bytes(buffer: &mut [u8], at: usize, bytes: &[u8]) -> usize
+    requires { at + length bytes.now ≤ length buffer.old }
+    ensures next { result ≡ at + length bytes.now }
+    ensures front { take result buffer.new ≡ take at buffer.old ++ bytes.now }
+{
+    let end = at + bytes.len();
+    buffer[at..end].copy_from_slice(bytes);
+    end
 }
 
 // Appends a byte of guarded strings.
