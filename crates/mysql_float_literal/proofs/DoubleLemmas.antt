@@ -16,7 +16,7 @@ use Rattle.mysql_sql_text.specs.LiteralShape.{AreDigits}
 use Rattle.mysql_float_literal.specs.DoubleShape.{IsSign, no_sign, minus_sign, IsFraction, no_fraction, point_and_digits, IsDouble, double_shape}
 
 -- an `e`
-abbrev is_e : ℕ → Bool
+abbrev pub is_e : ℕ → Bool
 is_e b = b == 101
 
 -- ---- digits
@@ -46,7 +46,7 @@ no_e_in_sign : (negative : Bool) (rest : List ℕ) → list_any is_e (sign_text 
 no_e_in_sign true rest = refl
 no_e_in_sign false rest = refl
 
-e_of_exponent : (negative : Bool) (p : Parts) → IsWellFormed p →
+pub e_of_exponent : (negative : Bool) (p : Parts) → IsWellFormed p →
     list_any is_e (sign_text negative ++ text_of p) ≡ list_any is_e (exponent_text p.exponent_negative p.exponent)
 e_of_exponent negative p w =
     no_e_in_sign negative _ ∙ (no_e_in_digits p.whole _ w.whole_digits ∙ no_e_in_fraction p.point p.fraction _ w.fraction_digits)
@@ -85,10 +85,10 @@ double_as_it_is text h some =
 -- ---- the exponent 0
 
 -- the parts with it
-abbrev with_zero : Parts → Parts
+abbrev pub with_zero : Parts → Parts
 with_zero p = record { whole = p.whole; point = p.point; fraction = p.fraction; exponent_negative = false; exponent = 48 ∷ []; len = length (p.whole ++ (cond p.point (46 ∷ p.fraction) [] ++ 101 ∷ 48 ∷ [])) }
 
-zero_plain : (p : Parts) → IsPlain p → IsPlain (with_zero p)
+pub zero_plain : (p : Parts) → IsPlain p → IsPlain (with_zero p)
 zero_plain p h = record {
   well_formed = record {
     whole_digits = h.well_formed.whole_digits;
@@ -104,7 +104,7 @@ zero_plain p h = record {
   marked = λ e. omega arith;
 }
 
-zero_text : (negative : Bool) (p : Parts) → p.exponent ≡ [] →
+pub zero_text : (negative : Bool) (p : Parts) → p.exponent ≡ [] →
     (sign_text negative ++ text_of p) ++ 101 ∷ 48 ∷ [] ≡ sign_text negative ++ text_of (with_zero p)
 zero_text negative p e = rw e (simp (append_assoc, append-nil))
 

@@ -1,4 +1,5 @@
 pub mod DoubleShape
+pub mod DoubleSpelling
 pub mod DoubleTest
 pub mod DoubleEnds
 pub mod ReadDouble

@@ -1,5 +1,6 @@
 //! A double and the number that is written for it.
 ghost use Rattle.std.specs.Prelude.{◌≤◌, take, IsTrue};
+ghost use Rattle.mysql_float_literal.specs.DoubleSpelling.{IsSpelledDouble};
 ghost use Rattle.mysql_float_literal.specs.DoubleTest.{is_double};
 ghost use Rattle.mysql_float_literal.specs.ReadDouble.{reads_finite};
 
@@ -13,6 +14,7 @@ pub struct Double {
     len: u8,
     ghost within: { len ≤ 27 },
     ghost shaped: { IsTrue (is_double (take len room)) },
+    ghost spelled: { IsSpelledDouble (take len room) },
     ghost finite: { IsTrue (reads_finite (take len room)) },
 }
 
@@ -75,12 +77,14 @@ impl Double {
         }
     }
 
-    /// Its text, of at most 27 bytes. It is a number with an exponent (`shape`), and reads as the
-    /// double (`exact`), which is finite.
+    /// Its text, of at most 27 bytes. It is a number with an exponent (`shape`) in the one spelling
+    /// of its digits (`spelled`): `1.5e0`, never `15e-1`. It reads as the double (`exact`), which
+    /// is finite. Other digits may read as the double, and no clause says which are taken.
     pub fn as_bytes(&self) -> &[u8]
         ensures text { result.now ≡ double_text self.now }
         ensures short { length result.now ≤ 27 }
         ensures shape { IsDouble result.now }
+        ensures spelled { IsSpelledDouble result.now }
         ensures exact { parse_float binary64 result.now ≡ Some (double_value self.now) }
         ensures finite { IsTrue (float_is_finite (double_value self.now)) }
     {

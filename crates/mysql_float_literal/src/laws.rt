@@ -5,8 +5,11 @@ ghost use Rattle.std.specs.Float.Ieee.{Float};
 ghost use Rattle.std.specs.Float.Parse.{parse_float};
 ghost use Rattle.mysql_float_literal.specs.DoubleEnds.{begins_number, ends_in_digit};
 ghost use Rattle.mysql_float_literal.specs.DoubleShape.{IsDouble};
+ghost use Rattle.mysql_float_literal.specs.DoubleSpelling.{AreSameNumber, DoubleSpelling, IsSpelledDouble};
 ghost use Rattle.mysql_float_literal.specs.DoubleTest.{is_double};
+ghost use Rattle.mysql_float_literal.specs.DoubleText.{double_text};
 ghost use Rattle.mysql_float_literal.specs.ReadDouble.{ReadsAs};
+ghost use Rattle.mysql_float_literal.specs.declared.double.Double as written;
 
 /// The test for a number with an exponent tests for its shape.
 pub fn is_double_is_shape()
@@ -24,4 +27,13 @@ pub fn doubles_read_before_others()
 pub fn ends_of_doubles()
     ensures begins { (text : List ℕ) → IsDouble text → IsTrue (begins_number text) }
     ensures ends { (text : List ℕ) → IsDouble text → IsTrue (ends_in_digit text) }
+{}
+
+/// The text of each [`Double`](crate::Double) is in the one spelling of its number (`spelled`). A
+/// decimal number has only one: two such texts of the same sign and the same number are the same
+/// (`same`).
+pub fn one_double_text()
+    ensures spelled { (double : written.Double) → IsSpelledDouble (double_text double) }
+    ensures same { (a b : List ℕ) → (x : DoubleSpelling a) → (y : DoubleSpelling b) →
+        x.negative ≡ y.negative → AreSameNumber x.parts y.parts → a ≡ b }
 {}

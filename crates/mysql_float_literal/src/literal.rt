@@ -5,6 +5,7 @@ ghost use Rattle.std.specs.Str.{byte};
 ghost use Rattle.std.specs.Float.{binary32, binary64, float_is_finite};
 ghost use Rattle.std.specs.Float.Parse.{parse_float};
 ghost use Rattle.mysql_float_literal.specs.DoubleShape.{IsDouble};
+ghost use Rattle.mysql_float_literal.specs.DoubleSpelling.{IsSpelledDouble};
 
 use ryu::raw;
 
@@ -50,6 +51,7 @@ pub(crate) fn put_finite(double: f64, out: &mut [u8; 32]) -> usize
     requires { IsTrue (float_is_finite double) }
     ensures exact { parse_float binary64 (take result out.new) ≡ Some double }
     ensures shape { IsDouble (take result out.new) }
+    ensures spelled { IsSpelledDouble (take result out.new) }
     ensures short { result ≤ 27 }
 {
     let len = raw::format(double, out);

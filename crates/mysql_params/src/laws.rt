@@ -9,7 +9,7 @@ pub use mysql_binding::laws::{
     wide_names_without_capitals, wide_query_equality,
 };
 pub use mysql_float_literal::laws::{
-    doubles_read_before_others, ends_of_doubles, is_double_is_shape,
+    doubles_read_before_others, ends_of_doubles, is_double_is_shape, one_double_text,
 };
 pub use mysql_fragments::laws::{
     bound_fragments_are_sent, bound_fragments_in_clients, bound_fragments_on_servers,

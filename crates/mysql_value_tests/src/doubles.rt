@@ -15,6 +15,12 @@ const NUMBERS: &[(u64, &[u8])] = &[
     (0x4341_c379_37e0_8000, b"1e16"),
     (0x44b5_2d02_c7e1_4af6, b"1e23"),
     (0x3e7a_d7f2_9abc_af48, b"1e-7"),
+    // Zeros before and after the digits, and where the exponent begins.
+    (0x4059_0000_0000_0000, b"100.0e0"),
+    (0x4311_8b54_f22a_eb00, b"1234567890123456.0e0"),
+    (0x437b_69b4_ba63_0f35, b"1.2345678901234568e17"),
+    (0x3ee4_f8b5_88e3_68f1, b"0.00001e0"),
+    (0x3e84_21f5_f40d_8376, b"1.5e-7"),
     // The least and the greatest of their kinds.
     (1, b"5e-324"),
     (0x800f_ffff_ffff_ffff, b"-2.225073858507201e-308"),

@@ -2,6 +2,7 @@ use Rattle.std.proofs.Common.{◌≡◌, ◌≤◌, ◌∙◌, sym, ap, subst, t
 use Rattle.std.proofs.lemmas.List.{length-take-le, take-take}
 use Rattle.std.specs.Float.{binary64}
 use Rattle.std.specs.Float.Parse.{parse_float}
+use Rattle.mysql_float_literal.specs.DoubleSpelling.{IsSpelledDouble}
 use Rattle.mysql_float_literal.specs.DoubleTest.{is_double}
 use Rattle.mysql_float_literal.specs.ReadDouble.{is_finite_number, or_nan}
 use Rattle.mysql_float_literal.proofs.DoubleTestLemmas.{tested}
@@ -24,6 +25,7 @@ invariant_of-result c =
     record {
       within = c.put_finite-len.ensures.short;
       shaped = subst (λ x. is_double x ≡ true) (sym same) (tested c.put_finite-len.ensures.shape);
+      spelled = subst IsSpelledDouble (sym same) c.put_finite-len.ensures.spelled;
       finite = ap is_finite_number (ap (parse_float binary64) same ∙ c.put_finite-len.ensures.exact) ∙ c.requires;
     }
 

@@ -1,0 +1,5 @@
+use Rattle.mysql_float_literal.proofs.OneTextLemmas.{one_text}
+use Rattle.mysql_float_literal.proofs.laws.one_double_text.Goals as goal
+
+pub returns : goal.returns
+returns c = record { spelled = λ double. double.spelled; same = one_text }
