@@ -2,6 +2,7 @@ mod BitLemmas
 mod DigitLemmas
 mod DoubleEndLemmas
 mod OneTextLemmas
+mod OtherSpellingLemmas
 pub mod ReadBeforeLemmas
 pub mod DoubleLemmas
 mod SpelledLemmas

@@ -1,5 +1,5 @@
 //! Laws of doubles. No program needs to call them.
-ghost use Rattle.std.specs.Prelude.{◌≡◌, ℕ, ◌↔◌, List, Some, IsTrue};
+ghost use Rattle.std.specs.Prelude.{◌≡◌, ℕ, ◌↔◌, List, Some, IsTrue, codes};
 ghost use Rattle.std.specs.Float.{binary64};
 ghost use Rattle.std.specs.Float.Ieee.{Float};
 ghost use Rattle.std.specs.Float.Parse.{parse_float};
@@ -31,9 +31,13 @@ pub fn ends_of_doubles()
 
 /// The text of each [`Double`](crate::Double) is in the one spelling of its number (`spelled`). A
 /// decimal number has only one: two such texts of the same sign and the same number are the same
-/// (`same`).
+/// (`same`). Other texts that read as 1.5 aren't in it (`two_digits`, `zeros_in_front`,
+/// `zero_at_the_end`).
 pub fn one_double_text()
     ensures spelled { (double : written.Double) → IsSpelledDouble (double_text double) }
     ensures same { (a b : List ℕ) → (x : DoubleSpelling a) → (y : DoubleSpelling b) →
         x.negative ≡ y.negative → AreSameNumber x.parts y.parts → a ≡ b }
+    ensures two_digits { ¬ (IsSpelledDouble (codes "15e-1")) }
+    ensures zeros_in_front { ¬ (IsSpelledDouble (codes "0001.5e0")) }
+    ensures zero_at_the_end { ¬ (IsSpelledDouble (codes "1.50e0")) }
 {}
