@@ -38,6 +38,7 @@ pub use mysql_steady_text::laws::{
     bound_guarded_texts_on_servers, bound_steady_texts, bound_steady_texts_are_sent,
     bound_steady_texts_in_clients, bound_texts_in_both_modes, client_sets, guarded_isolation,
     guarded_literals, guarded_texts_on_servers, guarded_texts_over_sets, one_content,
-    steady_isolation, steady_literals, steady_pairs_error_equality, steady_text_error_equality,
-    steady_texts_are_sent, steady_texts_in_clients, steady_texts_on_servers,
+    one_guarded_text, one_steady_text, steady_isolation, steady_literals,
+    steady_pairs_error_equality, steady_text_error_equality, steady_texts_are_sent,
+    steady_texts_in_clients, steady_texts_on_servers,
 };

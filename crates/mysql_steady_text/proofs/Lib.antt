@@ -24,3 +24,4 @@ pub mod GuardedTextLemmas
 pub mod GuardedAgainLemmas
 pub mod KnownSetLemmas
 pub mod OneContentLemmas
+pub mod OneTextLemmas

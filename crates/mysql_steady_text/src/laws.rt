@@ -34,7 +34,7 @@ use crate::steady_text_error::SteadyTextError;
 pub use guarded::{
     borrowed_guarded_literals, bound_guarded_texts, bound_guarded_texts_on_servers, client_sets,
     guarded_isolation, guarded_literals, guarded_texts_on_servers, guarded_texts_over_sets,
-    one_content,
+    one_content, one_guarded_text,
 };
 pub use literals::{borrowed_steady_literals, steady_literals};
 
@@ -218,6 +218,15 @@ pub fn bound_texts_in_both_modes()
     // A text for any mode is one for both.
     ensures steady { (ts : List Token) (given : Given) (text : List ℕ) →
         IsSteadyText ts given text → IsTextInBothModes ts given text }
+{}
+
+/// A query has exactly one steady text for the same parameters (`steady`), and exactly one text for
+/// both modes (`both_modes`).
+pub fn one_steady_text()
+    ensures steady { (ts : List Token) (given : Given) (a b : List ℕ) →
+        IsSteadyText ts given a → IsSteadyText ts given b → a ≡ b }
+    ensures both_modes { (ts : List Token) (given : Given) (a b : List ℕ) →
+        IsTextInBothModes ts given a → IsTextInBothModes ts given b → a ≡ b }
 {}
 
 /// Errors of binding to a steady text are equal if and only if variant and fields are.

@@ -168,3 +168,9 @@ pub fn bound_guarded_texts()
         (given : Given) → IsTokens mode query ts → (bound : IsGuardedText written ts given text) →
         IsGuardedText written (with_marks ts) (positional bound.values) text }
 {}
+
+/// A query has exactly one text with guarded literals of a mode for the same parameters.
+pub fn one_guarded_text()
+    ensures { (mode : Bool) (ts : List Token) (given : Given) (a b : List ℕ) →
+        IsGuardedText mode ts given a → IsGuardedText mode ts given b → a ≡ b }
+{}
