@@ -7,6 +7,7 @@ use Rattle.std.proofs.Common.{◌≡◌, ◌+◌, ◌++◌, ◌&&◌, nat_eq, na
 use Rattle.std.proofs.lemmas.Bool.{and_parts}
 use Rattle.std.proofs.lemmas.List.{length-map}
 use Rattle.mysql_values.specs.declared.value.Value.{Value}
+use Rattle.mysql_sql_text.specs.StringUnits.{with_backslashes}
 use Rattle.mysql_values.specs.Literal.{is_float, literal_of}
 use Rattle.mysql_value_core.proofs.LiteralLemmas.{is_none-literal_of}
 use Rattle.mysql_named_params.specs.Tokens.{Token, text_of, bytes_of, QuotedString, QuotedIdentifier, HashComment, DashComment, BlockComment, Name, Mark, Plain}
@@ -16,22 +17,27 @@ use Rattle.mysql_params_core.specs.Lookup.{lookup}
 use Rattle.mysql_float_literal.specs.DoubleText.{double_text}
 use Rattle.mysql_float_literal.specs.declared.double.Double.{Double}
 use Rattle.mysql_float_literal.proofs.DoubleValueLemmas.{double_reads}
-use Rattle.mysql_binding.specs.LiteralForm.{written_literal}
+use Rattle.mysql_binding.specs.LiteralForm.{LackFloats, Literals, written_literal}
 use Rattle.mysql_binding.specs.Pieces.{pieces, pieces_from, joined_text}
 use Rattle.mysql_binding.specs.Replaced.{with_literal_tokens}
 use Rattle.mysql_binding.specs.StandsAlone.{may_stand_before, may_stand_after, none_or_first, none_or_last, first_not_alone_from}
-use Rattle.mysql_binding.specs.ValueLiterals.{AreLiteralsOf}
 use Rattle.mysql_binding.proofs.BoundText.{bound}
 use Rattle.mysql_binding.proofs.CauseLemmas.{or_none, map_none}
 use Rattle.mysql_binding.proofs.ContentsLemmas.{alone_parts}
 use Rattle.mysql_binding.proofs.PieceLemmas.{joined_text_is, joined_text-pieces_from}
 use Rattle.mysql_binding.proofs.ValueLiteralLemmas.{has_literal}
-use Rattle.mysql_fragments.specs.Expanded.{IsBoundFragments}
+use Rattle.mysql_steady_text.specs.GuardedLiteral.{guarded_literal_of}
+use Rattle.mysql_steady_text.specs.SteadyLiteral.{steady_literal_of}
+use Rattle.mysql_steady_text.proofs.GuardedLiteralLemmas.{guarded_float}
+use Rattle.mysql_steady_text.proofs.SteadyLiteralLemmas.{steady_float}
+use Rattle.mysql_fragments.specs.Expanded.{IsBoundFragments, IsExpanded}
 use Rattle.mysql_fragments.specs.FragmentErrors.{first_fault_from, first_float_from, has_float, is_float_item}
 use Rattle.mysql_fragments.specs.FragmentFaults.{assignment_fault, assignments_fault, assignments_fault_from, columns_fault, columns_fault_from, digit_count, fault_of, is_decimal, item_fault, items_fault, list_fault, names_fault, number_after, number_fault, row_fault, rows_fault, rows_fault_from}
 use Rattle.mysql_fragments.specs.FragmentsInPlace.{ReadsAsNumber, ReadsAsDouble, ItemReadsAsItself, AreReadAsItems, read_last_item, read_more_items, AreReadAsRows, read_last_row, read_more_rows, AreReadAsColumns, read_last_column, read_more_columns, IsReadAsAssignment, AreReadAsAssignments, read_last_assignment, read_more_assignments, ReadsAsItself, ReadAsThemselves}
 use Rattle.mysql_fragments.specs.FragmentText.{all_values, columns_text, filled_assignment, filled_assignments, filled_item, filled_items, filled_row, filled_text, identifier_text, joined, qualified_text}
 use Rattle.mysql_fragments.specs.GivenFragments.{GivenFragments}
+use Rattle.mysql_fragments.specs.GuardedFragments.{IsGuardedFragments}
+use Rattle.mysql_fragments.specs.SteadyFragments.{IsSteadyFragments}
 use Rattle.mysql_fragments.specs.ReadFragment.{AreReadAsNames, read_exact}
 use Rattle.mysql_fragments.specs.declared.fragment.ColumnAssignment.{ColumnAssignment}
 use Rattle.mysql_fragments.specs.declared.fragment.Item.{Item}
@@ -44,13 +50,13 @@ use Rattle.mysql_fragments.proofs.FilledLemmas.{filled_bound}
 use Rattle.mysql_fragments.proofs.ReadFragmentLemmas.{decimal_back, identifier_read, names_read, no_backquote, no_digit}
 use Rattle.mysql_fragments.proofs.ShapeLemmas.{if_fault, if_row}
 
-module _ (mode : Bool) where
+module _ (literal : Literals) (lack : LackFloats literal) where
   -- the literal of a value
   abbrev write : Value → List ℕ
-  write = written_literal (literal_of mode)
+  write = written_literal literal
 
-  value_written : (value : Value) → is_float value ≡ false → literal_of mode value ≡ Some (write value)
-  value_written value e = has_literal (literal_of mode) (is_none-literal_of mode) value e
+  value_written : (value : Value) → is_float value ≡ false → literal value ≡ Some (write value)
+  value_written value e = has_literal literal lack value e
 
   -- ---- items
 
@@ -65,31 +71,31 @@ module _ (mode : Bool) where
   double_reads_before double rest h = double_reads double rest (no_digit rest h)
 
   item_reads : (row index : ℕ) (x : Item) (rest : List ℕ) → item_fault row index x ≡ None → is_float_item x ≡ false → none_or_first may_stand_after rest ≡ true →
-      ItemReadsAsItself mode x (filled_item write x) rest
+      ItemReadsAsItself literal x (filled_item write x) rest
   item_reads row index (item.Value value) rest f n h = value_written value n
   item_reads row index (item.Decimal number) rest f n h = number_reads row index number.items rest f h
   item_reads row index (item.Double double) rest f n h = double_reads_before double rest h
 
   items_read : (row index : ℕ) (x : Item) (items : List Item) (rest : List ℕ) → items_fault row index (x ∷ items) ≡ None →
       list_any is_float_item (x ∷ items) ≡ false → none_or_first may_stand_after rest ≡ true →
-      AreReadAsItems mode (filled_items write (x ∷ items) ++ rest) (x ∷ items) rest
+      AreReadAsItems literal (filled_items write (x ∷ items) ++ rest) (x ∷ items) rest
   items_read row index x [] rest f n h =
       let p = or_none (item_fault row index x) (items_fault row (index + 1) []) f in
       let q = or_false (is_float_item x) (list_any is_float_item []) n in
-      subst (λ z. AreReadAsItems mode (z ++ rest) (x ∷ []) rest) (sym (append-nil (filled_item write x)))
+      subst (λ z. AreReadAsItems literal (z ++ rest) (x ∷ []) rest) (sym (append-nil (filled_item write x)))
       (read_last_item (filled_item write x) x rest (item_reads row index x rest p.0 q.0 h))
   items_read row index x (y ∷ items) rest f n h =
       let p = or_none (item_fault row index x) (items_fault row (index + 1) (y ∷ items)) f in
       let q = or_false (is_float_item x) (list_any is_float_item (y ∷ items)) n in
       let after : List ℕ = filled_items write (y ∷ items) in
-      subst (λ z. AreReadAsItems mode z (x ∷ y ∷ items) rest) (sym (append_assoc (filled_item write x) (codes ", " ++ after) rest))
+      subst (λ z. AreReadAsItems literal z (x ∷ y ∷ items) rest) (sym (append_assoc (filled_item write x) (codes ", " ++ after) rest))
       (read_more_items (filled_item write x) x (after ++ rest) (y ∷ items) rest (item_reads row index x (codes ", " ++ (after ++ rest)) p.0 q.0 refl)
       (items_read row (index + 1) y items rest p.1 q.1 h))
 
   -- ---- rows
 
   row_reads : (width row : ℕ) (items : List Item) (rest : List ℕ) → row_fault width row items ≡ None → list_any is_float_item items ≡ false →
-      none_or_first may_stand_after rest ≡ true → AreReadAsItems mode (filled_items write items ++ rest) items rest
+      none_or_first may_stand_after rest ≡ true → AreReadAsItems literal (filled_items write items ++ rest) items rest
   row_reads width row [] rest f n h = cc
   row_reads width row (x ∷ items) rest f n h = items_read row 0 x items rest (if_row (nat_eq (length (x ∷ items)) width) _ _ f) n h
 
@@ -98,14 +104,14 @@ module _ (mode : Bool) where
 
   rows_read : (width row : ℕ) (x : Vec Item) (rows : List (Vec Item)) (rest : List ℕ) → rows_fault_from width row (x ∷ rows) ≡ None →
       list_any has_float_row (x ∷ rows) ≡ false →
-      AreReadAsRows mode (joined (codes ", ") (map (filled_row write) (x ∷ rows)) ++ rest) (x ∷ rows) rest
+      AreReadAsRows literal (joined (codes ", ") (map (filled_row write) (x ∷ rows)) ++ rest) (x ∷ rows) rest
   rows_read width row x [] rest f n =
       let p = or_none (row_fault width row x.items) (rows_fault_from width (row + 1) []) f in
       let q = or_false (has_float_row x) (list_any has_float_row []) n in
       let inner : List ℕ = filled_items write x.items in
       let cut : (filled_row write x ++ []) ++ rest ≡ codes "(" ++ (inner ++ (codes ")" ++ rest)) =
       ap (λ z. z ++ rest) (append-nil (filled_row write x)) ∙ ap (λ z. codes "(" ++ z) (append_assoc inner (codes ")") rest) in
-      subst (λ z. AreReadAsRows mode z (x ∷ []) rest) (sym cut)
+      subst (λ z. AreReadAsRows literal z (x ∷ []) rest) (sym cut)
       (read_last_row (inner ++ (codes ")" ++ rest)) x rest (row_reads width row x.items (codes ")" ++ rest) p.0 q.0 refl))
   rows_read width row x (y ∷ rows) rest f n =
       let p = or_none (row_fault width row x.items) (rows_fault_from width (row + 1) (y ∷ rows)) f in
@@ -114,7 +120,7 @@ module _ (mode : Bool) where
       let after : List ℕ = joined (codes ", ") (map (filled_row write) (y ∷ rows)) in
       let cut : (filled_row write x ++ (codes ", " ++ after)) ++ rest ≡ codes "(" ++ (inner ++ (codes "), " ++ (after ++ rest))) =
       append_assoc (filled_row write x) (codes ", " ++ after) rest ∙ ap (λ z. codes "(" ++ z) (append_assoc inner (codes ")") (codes ", " ++ (after ++ rest))) in
-      subst (λ z. AreReadAsRows mode z (x ∷ y ∷ rows) rest) (sym cut)
+      subst (λ z. AreReadAsRows literal z (x ∷ y ∷ rows) rest) (sym cut)
       (read_more_rows (inner ++ (codes "), " ++ (after ++ rest))) x (after ++ rest) (y ∷ rows) rest (row_reads width row x.items (codes "), " ++ (after ++ rest)) p.0 q.0 refl)
       (rows_read width (row + 1) y rows rest p.1 q.1))
 
@@ -148,7 +154,7 @@ module _ (mode : Bool) where
   -- ---- assignments
 
   assignment_reads : (part index : ℕ) (x : ColumnAssignment) (rest : List ℕ) → assignment_fault part index x ≡ None → is_float_item x.item ≡ false →
-      none_or_first may_stand_after rest ≡ true → IsReadAsAssignment mode (filled_assignment write x ++ rest) x rest
+      none_or_first may_stand_after rest ≡ true → IsReadAsAssignment literal (filled_assignment write x ++ rest) x rest
   assignment_reads part index x rest f n h =
       let p = or_none (names_fault part x.column.items) (item_fault 0 index x.item) f in
       let column : List ℕ = qualified_text x.column.items in
@@ -166,17 +172,17 @@ module _ (mode : Bool) where
 
   assignments_read : (part index : ℕ) (x : ColumnAssignment) (xs : List ColumnAssignment) (rest : List ℕ) → assignments_fault_from part index (x ∷ xs) ≡ None →
       list_any has_float_assignment (x ∷ xs) ≡ false → none_or_first may_stand_after rest ≡ true →
-      AreReadAsAssignments mode (filled_assignments write (x ∷ xs) ++ rest) (x ∷ xs) rest
+      AreReadAsAssignments literal (filled_assignments write (x ∷ xs) ++ rest) (x ∷ xs) rest
   assignments_read part index x [] rest f n h =
       let p = or_none (assignment_fault part index x) (assignments_fault_from (number_after part (length x.column.items)) (index + 1) []) f in
       let q = or_false (has_float_assignment x) (list_any has_float_assignment []) n in
-      subst (λ z. AreReadAsAssignments mode (z ++ rest) (x ∷ []) rest) (sym (append-nil (filled_assignment write x)))
+      subst (λ z. AreReadAsAssignments literal (z ++ rest) (x ∷ []) rest) (sym (append-nil (filled_assignment write x)))
       (read_last_assignment (filled_assignment write x ++ rest) x rest (assignment_reads part index x rest p.0 q.0 h))
   assignments_read part index x (y ∷ xs) rest f n h =
       let p = or_none (assignment_fault part index x) (assignments_fault_from (number_after part (length x.column.items)) (index + 1) (y ∷ xs)) f in
       let q = or_false (has_float_assignment x) (list_any has_float_assignment (y ∷ xs)) n in
       let after : List ℕ = filled_assignments write (y ∷ xs) in
-      subst (λ z. AreReadAsAssignments mode z (x ∷ y ∷ xs) rest) (sym (append_assoc (filled_assignment write x) (codes ", " ++ after) rest))
+      subst (λ z. AreReadAsAssignments literal z (x ∷ y ∷ xs) rest) (sym (append_assoc (filled_assignment write x) (codes ", " ++ after) rest))
       (read_more_assignments (filled_assignment write x ++ (codes ", " ++ (after ++ rest))) x (after ++ rest) (y ∷ xs) rest
       (assignment_reads part index x (codes ", " ++ (after ++ rest)) p.0 q.0 refl)
       (assignments_read (number_after part (length x.column.items)) (index + 1) y xs rest p.1 q.1 h))
@@ -185,7 +191,7 @@ module _ (mode : Bool) where
 
   -- before any text that may follow a place
   Reads : Fragment → Type 0
-  Reads fragment = (rest : List ℕ) → none_or_first may_stand_after rest ≡ true → ReadsAsItself mode fragment (filled_text write fragment) rest
+  Reads fragment = (rest : List ℕ) → none_or_first may_stand_after rest ≡ true → ReadsAsItself literal fragment (filled_text write fragment) rest
 
   one_reads : (fragment : Fragment) → fault_of fragment ≡ None → has_float fragment ≡ false → Reads fragment
   unfolding Reads
@@ -194,13 +200,13 @@ module _ (mode : Bool) where
   one_reads (one.Double double) f n rest h = double_reads_before double rest h
   one_reads (one.List items) f n rest h = go items.items f n
     where
-      go : (items : List Item) → list_fault items ≡ None → list_any is_float_item items ≡ false → AreReadAsItems mode (filled_items write items ++ rest) items rest
+      go : (items : List Item) → list_fault items ≡ None → list_any is_float_item items ≡ false → AreReadAsItems literal (filled_items write items ++ rest) items rest
       go [] f n = cc
       go (x ∷ items) f n = items_read 0 0 x items rest f n h
   one_reads (one.Rows rows) f n rest h = go rows.items f n
     where
       go : (rows : List (Vec Item)) → rows_fault rows ≡ None → list_any has_float_row rows ≡ false →
-          AreReadAsRows mode (joined (codes ", ") (map (filled_row write) rows) ++ rest) rows rest
+          AreReadAsRows literal (joined (codes ", ") (map (filled_row write) rows) ++ rest) rows rest
       go [] f n = cc
       go (row ∷ rows) f n = rows_read (length row.items) 0 row rows rest f n
   one_reads (one.Identifier name) f n rest h = identifier_read name.items rest (no_backquote rest h)
@@ -214,7 +220,7 @@ module _ (mode : Bool) where
   one_reads (one.Assignments assignments) f n rest h = go assignments.items f n
     where
       go : (xs : List ColumnAssignment) → assignments_fault xs ≡ None → list_any has_float_assignment xs ≡ false →
-          AreReadAsAssignments mode (filled_assignments write xs ++ rest) xs rest
+          AreReadAsAssignments literal (filled_assignments write xs ++ rest) xs rest
       go [] f n = cc
       go (x ∷ xs) f n = assignments_read 0 0 x xs rest f n h
 
@@ -253,8 +259,8 @@ module _ (mode : Bool) where
 
   placed_more : (ts : List Token) (piece : List ℕ) (fragment : Fragment) (fragments : List Fragment) →
       Reads fragment → none_or_first may_stand_after (text_of ts) ≡ true → length fragments ≡ place_count ts →
-      ReadAsThemselves mode (pieces_from [] ts) fragments (texts_of fragments) →
-      ReadAsThemselves mode (piece ∷ pieces_from [] ts) (fragment ∷ fragments) (texts_of (fragment ∷ fragments))
+      ReadAsThemselves literal (pieces_from [] ts) fragments (texts_of fragments) →
+      ReadAsThemselves literal (piece ∷ pieces_from [] ts) (fragment ∷ fragments) (texts_of (fragment ∷ fragments))
   unfolding Reads
   placed_more ts piece fragment fragments r h l more =
       let texts = texts_of fragments in
@@ -262,7 +268,7 @@ module _ (mode : Bool) where
 
   placed : (ts : List Token) (place : ℕ) (before piece : List ℕ) (fragments : List Fragment) →
       first_not_alone_from place before ts ≡ None → AllRead fragments → length fragments ≡ place_count ts →
-      ReadAsThemselves mode (pieces_from piece ts) fragments (texts_of fragments)
+      ReadAsThemselves literal (pieces_from piece ts) fragments (texts_of fragments)
   unfolding AllRead
   placed [] place before piece [] a r l = tt
   placed [] place before piece (fragment ∷ fragments) a r l = absurd (omega (arith, l))
@@ -281,31 +287,49 @@ module _ (mode : Bool) where
   placed (t ∷ ts) place before piece fragments a r l = placed ts place (before ++ bytes_of t) (piece ++ bytes_of t) fragments a r l
 
   -- the literals of values are the texts that are written for them
-  literals_written : (values : List Value) (literals : List (List ℕ)) → AreLiteralsOf mode values literals → literals ≡ map write values
+  literals_written : (values : List Value) (literals : List (List ℕ)) → map literal values ≡ map Some literals → literals ≡ map write values
   literals_written [] [] e = refl
-  literals_written [] (literal ∷ literals) e = cc
+  literals_written [] (text ∷ literals) e = cc
   literals_written (value ∷ values) [] e = cc
-  literals_written (value ∷ values) (literal ∷ literals) e =
-      let first : literal_of mode value ≡ Some literal = cc in
-      let later : map (literal_of mode) values ≡ map Some literals = cc in
-      let one : literal ≡ write value = sym (ap (λ o. unwrap_or o []) first) in
+  literals_written (value ∷ values) (text ∷ literals) e =
+      let first : literal value ≡ Some text = cc in
+      let later : map literal values ≡ map Some literals = cc in
+      let same : text ≡ write value = sym (ap (λ o. unwrap_or o []) first) in
       let more = literals_written values literals later in cc
 
-  pub read_as_themselves : (ts : List Token) (given : GivenFragments) (text : List ℕ) → (b : IsBoundFragments mode ts given text) →
-      (texts : List (List ℕ)) × (joined_text (pieces ts) texts ≡ Some text) × ReadAsThemselves mode (pieces ts) b.expanded.fragments texts
-  read_as_themselves ts given text b =
-      let x = b.expanded in
+  -- in the text of the expanded query and literals of its values
+  in_places : (mode : Bool) (ts : List Token) (given : GivenFragments) (query text : List ℕ) (x : IsExpanded true mode ts given query)
+      (values : List Value) (literals : List (List ℕ)) → lookup (positional (all_values x.fragments)) (names (with_literal_tokens ts x.lists)) ≡ Ok values →
+      map literal values ≡ map Some literals → joined_text (pieces (with_literal_tokens ts x.lists)) literals ≡ Some text →
+      (texts : List (List ℕ)) × (joined_text (pieces ts) texts ≡ Some text) × ReadAsThemselves literal (pieces ts) x.fragments texts
+  in_places mode ts given query text x values literals looked_up written is =
       let us : List Token = with_literal_tokens ts x.lists in
-      let parts = expanded_parts true mode ts given b.query x in
-      let none : names us ≡ [] = expanded_nameless true mode ts given b.query x in
-      let found : Ok (all_values x.fragments) ≡ Ok b.bound.values = sym (ap (lookup (positional (all_values x.fragments))) none) ∙ b.bound.looked_up in
-      let values_are : b.bound.values ≡ all_values x.fragments = cc in
-      let literals_are : b.bound.literals ≡ map write (all_values x.fragments) =
-      literals_written b.bound.values b.bound.literals b.bound.written ∙ ap (map write) values_are in
+      let parts = expanded_parts true mode ts given query x in
+      let none : names us ≡ [] = expanded_nameless true mode ts given query x in
+      let found : Ok (all_values x.fragments) ≡ Ok values = sym (ap (lookup (positional (all_values x.fragments))) none) ∙ looked_up in
+      let values_are : values ≡ all_values x.fragments = cc in
+      let literals_are : literals ≡ map write (all_values x.fragments) = literals_written values literals written ∙ ap (map write) values_are in
       let text_is : text ≡ bound ts (texts_of x.fragments) =
-      joined_text_is us b.bound.literals text b.bound.text_is
+      joined_text_is us literals text is
       ∙ (ap (bound us) literals_are ∙ filled_bound mode write 0 ts x.fragments x.lists parts.2 x.tokens_of_fragments parts.0) in (
         texts_of x.fragments,
         joined_text-pieces_from [] ts (texts_of x.fragments) (count ts x.fragments parts.0) ∙ ap Some (sym text_is),
-        placed ts 0 [] [] x.fragments (expanded_alone true mode ts given b.query x) (all_read 0 x.fragments parts.2 parts.1) parts.0,
+        placed ts 0 [] [] x.fragments (expanded_alone true mode ts given query x) (all_read 0 x.fragments parts.2 parts.1) parts.0,
       )
+
+-- ---- in each form of literals
+
+pub read_as_themselves : (mode : Bool) (ts : List Token) (given : GivenFragments) (text : List ℕ) → (b : IsBoundFragments mode ts given text) →
+    (texts : List (List ℕ)) × (joined_text (pieces ts) texts ≡ Some text) × ReadAsThemselves (literal_of mode) (pieces ts) b.expanded.fragments texts
+read_as_themselves mode ts given text b =
+    in_places (literal_of mode) (is_none-literal_of mode) mode ts given b.query text b.expanded b.bound.values b.bound.literals b.bound.looked_up b.bound.written b.bound.text_is
+
+pub steady_as_themselves : (ts : List Token) (given : GivenFragments) (text : List ℕ) → (b : IsSteadyFragments ts given text) →
+    (texts : List (List ℕ)) × (joined_text (pieces ts) texts ≡ Some text) × ReadAsThemselves steady_literal_of (pieces ts) b.expanded.fragments texts
+steady_as_themselves ts given text b =
+    in_places steady_literal_of steady_float with_backslashes ts given b.query text b.expanded b.bound.values b.bound.literals b.bound.looked_up b.bound.written b.bound.text_is
+
+pub guarded_as_themselves : (mode : Bool) (ts : List Token) (given : GivenFragments) (text : List ℕ) → (b : IsGuardedFragments mode ts given text) →
+    (texts : List (List ℕ)) × (joined_text (pieces ts) texts ≡ Some text) × ReadAsThemselves (guarded_literal_of mode) (pieces ts) b.expanded.fragments texts
+guarded_as_themselves mode ts given text b =
+    in_places (guarded_literal_of mode) (guarded_float mode) with_backslashes ts given b.query text b.expanded b.bound.values b.bound.literals b.bound.looked_up b.bound.written b.bound.text_is

@@ -30,3 +30,4 @@ pub mod BracketLemmas
 pub mod BracketClosesLemmas
 pub mod BracketWalkLemmas
 pub mod BracketLawLemmas
+mod OneFragmentsLemmas

@@ -2,6 +2,7 @@
 ghost use Rattle.std.specs.Prelude.{◌≡◌, ◌++◌, ◌∷◌, ℕ, ℤ, Bool, true, List, None, Some, Ok, IsTrue, codes, length, map, option_map, pos, neg_ℤ};
 ghost use Rattle.std.specs.Global.{Global};
 ghost use Rattle.std.specs.Str.Parse.{digits_value};
+ghost use Rattle.mysql_values.specs.Literal.{literal_of};
 ghost use Rattle.mysql_values.specs.declared.value.Value.{Value};
 ghost use Rattle.mysql_sql_text.specs.LiteralEnd.{BeginsWithout};
 ghost use Rattle.mysql_sql_text.specs.LiteralShape.{AreDigits};
@@ -22,6 +23,8 @@ ghost use Rattle.mysql_binding.specs.Isolation.{IsBoundText};
 ghost use Rattle.mysql_binding.specs.Pieces.{pieces, joined_text};
 ghost use Rattle.mysql_binding.specs.Replaced.{AreTokensOf, with_literal_tokens};
 ghost use Rattle.mysql_binding.specs.StandsAlone.{first_not_alone, may_stand_after, none_or_first};
+ghost use Rattle.mysql_steady_text.specs.GuardedLiteral.{guarded_literal_of};
+ghost use Rattle.mysql_steady_text.specs.SteadyLiteral.{steady_literal_of};
 ghost use Rattle.mysql_float_literal.specs.DoubleShape.{IsDouble};
 ghost use Rattle.mysql_fragments.specs.BorrowedFragments.{AreSaid, HaveFewCells};
 ghost use Rattle.mysql_fragments.specs.Expanded.{IsBoundFragments};
@@ -31,8 +34,10 @@ ghost use Rattle.mysql_fragments.specs.FragmentShape.{AreFragments};
 ghost use Rattle.mysql_fragments.specs.FragmentsInPlace.{ReadAsThemselves};
 ghost use Rattle.mysql_fragments.specs.FragmentText.{fragment_text, identifier_text, joined};
 ghost use Rattle.mysql_fragments.specs.GivenFragments.{GivenFragments, fragments_for};
+ghost use Rattle.mysql_fragments.specs.GuardedFragments.{IsGuardedFragments};
 ghost use Rattle.mysql_fragments.specs.ReadFragment.{AreReadAsNames, ReadsAsOne, is_backquote, read_exact, read_identifier};
 ghost use Rattle.mysql_fragments.specs.SentFragments.{BeginNoWords};
+ghost use Rattle.mysql_fragments.specs.SteadyFragments.{IsSteadyFragments};
 ghost use Rattle.mysql_fragments.specs.ValueFragments.{same_cause};
 ghost use Rattle.mysql_fragments.specs.declared.fragment.Fragment as said_fragment;
 ghost use Rattle.mysql_fragments.specs.declared.fragment.Fragment.TheVariants as fragment;
@@ -259,12 +264,33 @@ pub fn fragments_read_back()
 /// The text that is bound to a query with fragments is the query's pieces with a text for each
 /// fragment between them. Each identifier, exact number and double in it, followed by the rest of
 /// the text, reads as itself and leaves exactly that rest, also within a list or rows. Each value
-/// is its literal, and each keyword is its bytes.
+/// is its literal, and each keyword is its bytes. So it is with plain literals (`plain`), steady
+/// ones (`steady`) and guarded ones (`guarded`).
 pub fn fragments_read_in_place()
-    ensures { (mode : Bool) (ts : List Token) (given : GivenFragments) (text : List ℕ) →
+    ensures plain { (mode : Bool) (ts : List Token) (given : GivenFragments) (text : List ℕ) →
         (b : IsBoundFragments mode ts given text) → (texts : List (List ℕ))
         × (joined_text (pieces ts) texts ≡ Some text)
-        × ReadAsThemselves mode (pieces ts) b.expanded.fragments texts }
+        × ReadAsThemselves (literal_of mode) (pieces ts) b.expanded.fragments texts }
+    ensures steady { (ts : List Token) (given : GivenFragments) (text : List ℕ) →
+        (b : IsSteadyFragments ts given text) → (texts : List (List ℕ))
+        × (joined_text (pieces ts) texts ≡ Some text)
+        × ReadAsThemselves steady_literal_of (pieces ts) b.expanded.fragments texts }
+    ensures guarded { (mode : Bool) (ts : List Token) (given : GivenFragments)
+        (text : List ℕ) → (b : IsGuardedFragments mode ts given text) →
+        (texts : List (List ℕ)) × (joined_text (pieces ts) texts ≡ Some text)
+        × ReadAsThemselves (guarded_literal_of mode) (pieces ts) b.expanded.fragments texts }
+{}
+
+/// A query has exactly one text for the same fragments: with plain literals of a mode (`plain`),
+/// with steady ones (`steady`), and with guarded ones of a mode (`guarded`).
+pub fn one_text_with_fragments()
+    ensures plain { (mode : Bool) (ts : List Token) (given : GivenFragments) (a b : List ℕ) →
+        IsBoundFragments mode ts given a → IsBoundFragments mode ts given b → a ≡ b }
+    ensures steady { (ts : List Token) (given : GivenFragments) (a b : List ℕ) →
+        IsSteadyFragments ts given a → IsSteadyFragments ts given b → a ≡ b }
+    ensures guarded { (mode : Bool) (ts : List Token) (given : GivenFragments)
+        (a b : List ℕ) → IsGuardedFragments mode ts given a →
+        IsGuardedFragments mode ts given b → a ≡ b }
 {}
 
 /// If the fragments for the places are all values, then

@@ -14,8 +14,9 @@ pub use mysql_float_literal::laws::{
 pub use mysql_fragments::laws::{
     bound_fragments_are_sent, bound_fragments_in_clients, bound_fragments_on_servers,
     doubles_are_plain, fragments_are_sent, fragments_in_clients, fragments_isolated,
-    fragments_on_servers, fragments_read_back, fragments_read_in_place, said_fragments_exist,
-    steady_fragments_are_sent, steady_fragments_in_clients, values_bind_as_text,
+    fragments_on_servers, fragments_read_back, fragments_read_in_place, one_text_with_fragments,
+    said_fragments_exist, steady_fragments_are_sent, steady_fragments_in_clients,
+    values_bind_as_text,
 };
 pub use mysql_named_params::laws::{
     locality, lowered_names, marked_wide_names, mixed_error_equality, named_params_error_equality,
