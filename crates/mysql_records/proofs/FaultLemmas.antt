@@ -1,9 +1,9 @@
 -- A text has at most one fault, and the text before it is the front of a record.
 use Rattle.std.proofs.Common.{◌≡◌, ◌≢◌, ℕ, ◌<◌, Bool, true, false, true≢false, List, [], ◌∷◌, ◌++◌, Option, Some, None, length, take, drop, refl, sym, ap, ◌∙◌, subst, append_assoc, append-nil, arith, length-drop, take-append-drop}
 use Rattle.mysql_records.specs.Faults.{HasNoEscape, BeginsWithNo, IsFaultAt, IsFieldBefore, return_bare, return_enclosed, quote_bare, open_quote, behind_quote, escape_bare, escape_enclosed, IsRecordBefore, in_field, behind_field, IsTableBefore, in_record, behind_record, IsFaulty, IsFaultyTable}
-use Rattle.mysql_records.specs.Fields.{StartsNoPiece, BeginsWithPieces, BeginsWithField}
+use Rattle.mysql_records.specs.Fields.{StartsNoPiece, BeginsWithPieces}
 use Rattle.mysql_records.specs.Formats.{backslash, carriage_return, doubles_quotes, escape_value, has_escapes, has_quotes, is_special, newline, quote, separator}
-use Rattle.mysql_records.specs.Records.{no_pieces, IsField, bare, enclosed, IsRecord, one_field, more_fields, IsLineEnd, line_feed, EndsField, at_separator, at_line_end, IsRecordThen, IsTable, no_records}
+use Rattle.mysql_records.specs.Records.{no_pieces, IsField, bare, enclosed, IsRecord, one_field, more_fields, IsLineEnd, line_feed, EndsField, at_separator, at_line_end, IsRecordThen, IsTable, no_records, BeginsWithField}
 use Rattle.mysql_records.specs.declared.fault.Fault.{Fault}
 use Rattle.mysql_records.specs.declared.fault.FaultKind.{FaultKind}
 use Rattle.mysql_records.specs.declared.fault.FaultKind.TheVariants.{StrayReturn, StrayQuote, OpenQuote, BehindQuote, UnknownEscape}
@@ -201,7 +201,7 @@ record_fault_same format b c k l t u (behind_field x text rest f h) hb (behind_f
     record_fault_same format b c k l rest rest2 h hb m hc (cc)
 
 -- a text with a fault in its first record begins with no record
-no_record : (format : RecordFormat) (back : List ℕ) (kind : FaultKind) (front whole_text : List ℕ) (fields : List (Option (List ℕ))) (end : List ℕ) → IsRecordBefore format back kind front →
+pub no_record : (format : RecordFormat) (back : List ℕ) (kind : FaultKind) (front whole_text : List ℕ) (fields : List (Option (List ℕ))) (end : List ℕ) → IsRecordBefore format back kind front →
     IsFaultAt format kind back → whole_text ≡ front ++ back → IsRecordThen format whole_text fields end → ⊥
 no_record format back kind front whole_text fields end (in_field text h) stands e r =
     let first = first_of format whole_text fields end r in
@@ -213,7 +213,7 @@ no_record format back kind front whole_text fields end (behind_field x text rest
 -- ---- the first table with a fault
 
 -- a record and a line end before a fault
-whole_before : (format : RecordFormat) (whole_text : List ℕ) (fields : List (Option (List ℕ))) (text line rest back : List ℕ) → IsRecord format fields text → IsLineEnd format line →
+pub whole_before : (format : RecordFormat) (whole_text : List ℕ) (fields : List (Option (List ℕ))) (text line rest back : List ℕ) → IsRecord format fields text → IsLineEnd format line →
     whole_text ≡ (text ++ line ++ rest) ++ back → IsRecordThen format whole_text fields (rest ++ back)
 whole_before format whole_text fields text line rest back h l e = record {
   front = text;

@@ -4,8 +4,8 @@ use Rattle.std.proofs.lemmas.Bool.{eqb-true}
 use Rattle.mysql_records.specs.Faults.{HasNoEscape, BeginsWithNo, IsFaultAt}
 use Rattle.mysql_records.specs.declared.fault.FaultKind.TheVariants.{StrayReturn, BehindQuote, UnknownEscape}
 use Rattle.mysql_records.specs.Formats.{backslash, carriage_return, escape_value, has_escapes, has_quotes, is_special, newline, quote, separator}
-use Rattle.mysql_records.specs.Records.{raw, doubled, escape, IsPieces, no_pieces, more_pieces, IsField, bare, enclosed, null, line_feed, return_line_feed, EndsRecord, at_line_end, at_text_end, EndsField, at_separator, at_record_end}
-use Rattle.mysql_records.specs.Fields.{StartsNoPiece, BeginsWithPieces, BeginsWithField}
+use Rattle.mysql_records.specs.Records.{raw, doubled, escape, IsPieces, no_pieces, more_pieces, IsField, bare, enclosed, null, line_feed, return_line_feed, EndsRecord, at_line_end, at_text_end, EndsField, at_separator, at_record_end, BeginsWithField}
+use Rattle.mysql_records.specs.Fields.{StartsNoPiece, BeginsWithPieces}
 use Rattle.mysql_records.specs.declared.format.RecordFormat.{RecordFormat}
 use Rattle.mysql_records.specs.declared.format.RecordFormat.TheVariants.{Csv, Tsv, MysqlCsv, MysqlTsv}
 use Rattle.mysql_records.proofs.PieceLemmas.{special_backslash, special_quote, special_separator, special_newline, special_return, none_doubled_bare, none_at, none_at_end, none_starts, starts_special, pieces_same}

@@ -2,9 +2,11 @@ pub mod PieceLemmas
 pub mod RowLemmas
 pub mod FieldLemmas
 pub mod ReadFieldLemmas
+pub mod LentFieldLemmas
 pub mod RecordLemmas
 pub mod ReadRecordLemmas
 pub mod TableLemmas
 pub mod FaultLemmas
+pub mod FaultyPieceLemmas
 pub mod WrittenLemmas
 pub mod WriterLemmas

@@ -4,9 +4,9 @@ use Rattle.std.specs.Option.{IfSome, IfNone, is_some}
 use Rattle.std.proofs.lemmas.Bool.{eqb-true}
 use Rattle.std.proofs.lemmas.List.{nil_from_length}
 use Rattle.mysql_records.specs.Faults.{BeginsWithNoNull, IsFaultAt, IsFieldBefore, open_quote, escape_enclosed}
-use Rattle.mysql_records.specs.Fields.{BeginsWithPieces, BeginsWithField, IsFieldEnd, IsFaultyField}
+use Rattle.mysql_records.specs.Fields.{BeginsWithPieces, IsFieldEnd, IsFaultyField}
 use Rattle.mysql_records.specs.Formats.{backslash, has_escapes, has_quotes, quote}
-use Rattle.mysql_records.specs.Records.{IsPieces, bare, enclosed, null, EndsField, at_record_end}
+use Rattle.mysql_records.specs.Records.{IsPieces, bare, enclosed, null, EndsField, at_record_end, BeginsWithField}
 use Rattle.mysql_records.specs.declared.fault.FaultKind.{FaultKind}
 use Rattle.mysql_records.specs.declared.fault.FaultKind.TheVariants.{OpenQuote, UnknownEscape}
 use Rattle.mysql_records.specs.declared.fields.FieldEnd.{FieldEnd}

@@ -2,9 +2,9 @@
 use Rattle.std.proofs.Common.{◌≡◌, ◌≢◌, ℕ, ◌+◌, ◌-◌, ◌<◌, List, [], ◌∷◌, ◌++◌, Option, length, take, drop, refl, sym, ap, ◌∙◌, subst, append_assoc, arith, length-append}
 use Rattle.std.proofs.lemmas.List.{drop_at, take_at}
 use Rattle.mysql_records.specs.Faults.{IsFaultAt, IsRecordBefore, in_field, behind_field, IsFaulty}
-use Rattle.mysql_records.specs.Fields.{BeginsWithField, IsFaultyField}
+use Rattle.mysql_records.specs.Fields.{IsFaultyField}
 use Rattle.mysql_records.specs.Formats.{separator}
-use Rattle.mysql_records.specs.Records.{line_feed, return_line_feed, EndsRecord, at_line_end, at_text_end, IsRecordThen, BeginsWithRecord}
+use Rattle.mysql_records.specs.Records.{line_feed, return_line_feed, EndsRecord, at_line_end, at_text_end, IsRecordThen, BeginsWithRecord, BeginsWithField}
 use Rattle.mysql_records.specs.declared.fault.Fault.{Fault}
 use Rattle.mysql_records.specs.declared.fault.FaultKind.{FaultKind}
 use Rattle.mysql_records.specs.declared.format.RecordFormat.{RecordFormat}

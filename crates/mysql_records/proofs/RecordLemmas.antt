@@ -1,8 +1,7 @@
 -- A text begins with one record at most, and is one table at most.
 use Rattle.std.proofs.Common.{◌≡◌, ◌≢◌, ℕ, List, [], ◌∷◌, ◌++◌, Option, refl, sym, ap, ◌∙◌, subst, append_assoc, arith}
 use Rattle.mysql_records.specs.Formats.{carriage_return, newline, separator}
-use Rattle.mysql_records.specs.Records.{IsRecord, one_field, more_fields, line_feed, return_line_feed, EndsRecord, at_line_end, at_text_end, IsRecordThen, BeginsWithRecord, IsTable, no_records, more_records, at_separator, at_record_end}
-use Rattle.mysql_records.specs.Fields.{BeginsWithField}
+use Rattle.mysql_records.specs.Records.{IsRecord, one_field, more_fields, line_feed, return_line_feed, EndsRecord, at_line_end, at_text_end, IsRecordThen, BeginsWithRecord, IsTable, no_records, more_records, at_separator, at_record_end, BeginsWithField}
 use Rattle.mysql_records.specs.declared.format.RecordFormat.{RecordFormat}
 use Rattle.mysql_records.proofs.FieldLemmas.{field_same, separator_not_newline, separator_not_return}
 

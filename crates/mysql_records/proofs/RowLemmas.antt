@@ -28,11 +28,11 @@ pub read_longest : (format : RecordFormat) (quoted : Bool) (text bytes rest : Li
     StartsNoPiece format quoted rest → BeginsWithPieces format quoted text bytes rest
 read_longest format quoted text bytes rest h longest = record { front = h.front; whole = h.whole; are_pieces = h.are_pieces; longest = longest }
 
-either_false : (a b : Bool) → (a || b) ≡ false → (a ≡ false) × (b ≡ false)
+pub either_false : (a b : Bool) → (a || b) ≡ false → (a ≡ false) × (b ≡ false)
 either_false true b h = cc
 either_false false b h = (refl, h)
 
-raw_pieces : (format : RecordFormat) (quoted : Bool) (bytes : List ℕ) → list_any (is_special format quoted) bytes ≡ false →
+pub raw_pieces : (format : RecordFormat) (quoted : Bool) (bytes : List ℕ) → list_any (is_special format quoted) bytes ≡ false →
     IsPieces format quoted bytes bytes
 raw_pieces format quoted [] h = no_pieces
 raw_pieces format quoted (b ∷ bytes) h =

@@ -28,7 +28,7 @@ front_of : (format : RecordFormat) (back rest : List ℕ) → EndsRecord format 
 front_of format back rest (at_line_end line r h) = (line, refl)
 front_of format back rest at_text_end = ([], refl)
 
-not_none : (more back : List ℕ) → back ≢ [] → [] ≢ more ++ back
+pub not_none : (more back : List ℕ) → back ≢ [] → [] ≢ more ++ back
 not_none [] back some e = some (sym e)
 not_none (a ∷ more) back some e = cc
 
@@ -86,7 +86,7 @@ pub rows_all : (format : RecordFormat) (text : List ℕ) (done : List (List (Opt
 rows_all format text done rest h e =
     subst (λ y. IsTable format y text) (append-nil done) (h.sound [] (subst (IsTable format []) (sym e) no_records))
 
-not_empty_at : (format : RecordFormat) (kind : FaultKind) (back : List ℕ) → IsFaultAt format kind back → back ≢ []
+pub not_empty_at : (format : RecordFormat) (kind : FaultKind) (back : List ℕ) → IsFaultAt format kind back → back ≢ []
 not_empty_at format kind [] h = absurd h
 not_empty_at format kind (a ∷ back) h = λ e. cc
 

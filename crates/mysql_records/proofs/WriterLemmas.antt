@@ -1,15 +1,16 @@
 -- Writers in use choose as a writer may, and can write the bytes that they are said to.
-use Rattle.std.proofs.Common.{◌≡◌, ◌≢◌, ◌⊎◌, ℕ, Bool, true, false, ◌||◌, eqb, List, [], ◌∷◌, Some, None, inl, inr, refl, sym, ap, ◌∙◌, subst, arith, true≢false}
+use Rattle.std.proofs.Common.{◌≡◌, ◌≢◌, ◌⊎◌, ℕ, Bool, true, false, ◌||◌, eqb, List, [], ◌∷◌, Some, None, inl, inr, refl, sym, ap, ◌∙◌, subst, append_assoc, arith, true≢false}
 use Rattle.std.specs.Prelude.{All, codes}
 use Rattle.std.specs.List.{list_any}
 use Rattle.std.proofs.lemmas.Bool.{cond_both, eqb-true}
 use Rattle.std.proofs.lemmas.List.Elements.{All-cons, All-head, All-tail}
-use Rattle.mysql_records.specs.Formats.{backslash, escape_value, has_escapes, has_quotes, newline, quote}
-use Rattle.mysql_records.specs.Records.{IsLineEnd, line_feed}
-use Rattle.mysql_records.specs.WrittenRecords.{escaped, IsWriter, IsWritableByte, IsWritable}
-use Rattle.mysql_records.specs.Writers.{escape_among, usual_escape, usual_writer, unwritable_bytes, client_escape, client_writer}
+use Rattle.mysql_records.specs.Formats.{backslash, escape_value, has_escapes, has_quotes, is_special, newline, quote}
+use Rattle.mysql_records.specs.Records.{IsField, IsRecord, one_field, more_fields, IsLineEnd, line_feed, IsTable}
+use Rattle.mysql_records.specs.WrittenRecords.{Cell, escaped, written_field, written_record, written_table, fields_of, IsWriter, IsWritableByte, IsWritable, IsWritableTable}
+use Rattle.mysql_records.specs.Writers.{escape_among, usual_escape, usual_writer, unwritable_bytes, client_escape, client_writer, names_writer, name_fields, name_cells, client_table, ArePlainNames}
 use Rattle.mysql_records.specs.declared.format.RecordFormat.{RecordFormat}
 use Rattle.mysql_records.specs.declared.format.RecordFormat.TheVariants.{Csv, Tsv, MysqlCsv, MysqlTsv}
+use Rattle.mysql_records.proofs.WrittenLemmas.{field_is, table_more, written_table_is}
 
 either_false : (a b : Bool) → (a || b) ≡ false → (a ≡ false) × (b ≡ false)
 either_false true b h = cc
@@ -157,3 +158,35 @@ client_byte b special =
 pub client_field : (bytes : List ℕ) → IsWritable client_writer false (Some bytes)
 client_field [] = none (IsWritableByte client_writer false)
 client_field (b ∷ bytes) = All-cons (IsWritableByte client_writer false) b bytes (client_byte b) (client_field bytes)
+
+-- ---- the line of names
+
+names_writer_is : IsWriter names_writer
+names_writer_is = record { line_end = line_feed; escape = λ quoted b c e. cc }
+
+name_field : (name : List ℕ) → list_any (is_special MysqlTsv false) name ≡ false → IsField MysqlTsv (Some name) (written_field names_writer false (Some name))
+name_field name h =
+    field_is names_writer false (Some name) names_writer_is
+    (all_of (is_special MysqlTsv false) (IsWritableByte names_writer false) name (λ b none special. absurd (true≢false (sym special ∙ none))) h)
+
+IsPlain : List ℕ → Type 0
+IsPlain name = list_any (is_special MysqlTsv false) name ≡ false
+
+names_record : (names : List (List ℕ)) → names ≢ [] → All IsPlain names → IsRecord MysqlTsv (name_fields names) (written_record names_writer (name_cells names))
+unfolding IsPlain
+names_record [] some h = absurd (some refl)
+names_record (name ∷ []) some h = one_field (Some name) (written_field names_writer false (Some name)) (name_field name (All-head IsPlain name [] h))
+names_record (name ∷ next ∷ names) some h =
+    more_fields (Some name) (name_fields (next ∷ names)) (written_field names_writer false (Some name)) (written_record names_writer (name_cells (next ∷ names)))
+    (name_field name (All-head IsPlain name (next ∷ names) h))
+    (names_record (next ∷ names) (λ e. cc) (All-tail IsPlain name (next ∷ names) h))
+
+pub client_table_is : (names : List (List ℕ)) (rows : List (List Cell)) → ArePlainNames names → IsWritableTable client_writer rows →
+    IsTable MysqlTsv (name_fields names ∷ fields_of rows) (client_table names rows)
+unfolding IsPlain
+client_table_is names rows plain w =
+    let front : List ℕ = written_record names_writer (name_cells names) in
+    let rest : List ℕ = written_table client_writer rows in
+    subst (IsTable MysqlTsv (name_fields names ∷ fields_of rows)) (sym (append_assoc front (newline ∷ []) rest))
+    (table_more MysqlTsv (name_fields names) (fields_of rows) front (newline ∷ []) rest (names_record names plain.0 plain.1) line_feed
+    (written_table_is client_writer rows client_writer_is w))

@@ -44,7 +44,7 @@ all_pieces writer quoted (b ∷ bytes) w h =
 
 -- ---- fields, records and tables
 
-field_is : (writer : Writer) (quoted : Bool) (field : Option (List ℕ)) → IsWriter writer → IsWritable writer quoted field →
+pub field_is : (writer : Writer) (quoted : Bool) (field : Option (List ℕ)) → IsWriter writer → IsWritable writer quoted field →
     IsField writer.format field (written_field writer quoted field)
 field_is writer quoted None w h = null h
 field_is writer true (Some bytes) w h = enclosed bytes (flat_map (written_byte writer true) bytes) h.0 (all_pieces writer true bytes w h.1)
@@ -68,7 +68,7 @@ record_is writer (cell ∷ next ∷ cells) w some h =
     (field_is writer cell.quoted cell.field w (All-head (IsWritableCell writer) cell (next ∷ cells) h))
     (record_is writer (next ∷ cells) w (λ e. cc) (All-tail (IsWritableCell writer) cell (next ∷ cells) h))
 
-some_line_end : (format : RecordFormat) (line front rest : List ℕ) → IsLineEnd format line → front ++ (line ++ rest) ≢ []
+pub some_line_end : (format : RecordFormat) (line front rest : List ℕ) → IsLineEnd format line → front ++ (line ++ rest) ≢ []
 some_line_end format line [] rest line_feed e = cc
 some_line_end format line [] rest (return_line_feed h) e = cc
 some_line_end format line (b ∷ front) rest h e = cc

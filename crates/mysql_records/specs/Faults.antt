@@ -1,6 +1,6 @@
 -- The faults of a text, which no record has at their places, and the text that is read before one.
--- A fault is the first byte that no record has at its place, or a quote that no quote ends: the
--- laws `faults_are_first` and `faults_are_unambiguous`.
+-- At a fault the first piece begins that no record has there (FaultyPieces has the pieces): the laws
+-- `faults_are_first`, `faulty_pieces_are_first` and `faults_are_unambiguous`.
 use Rattle.std.specs.Prelude.{◌≡◌, ◌≢◌, ℕ, ◌<◌, true, false, IsTrue, IsFalse, List, [], ◌∷◌, ◌++◌, length, take, drop, Option, None, ⊤}
 use Rattle.std.specs.Str.{byte}
 use Rattle.mysql_records.specs.Formats.{backslash, carriage_return, doubles_quotes, escape_value, has_escapes, has_quotes, newline, quote, separator}

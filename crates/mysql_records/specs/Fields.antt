@@ -1,8 +1,9 @@
 -- The parts that are read at the front of a text in one step: pieces, a field, the end of a field.
--- Private contracts cite this module. The public ones cite only Records and Faults.
+-- Only private contracts cite this module.
 use Rattle.std.specs.Prelude.{◌≡◌, ◌≢◌, ℕ, Bool, IsTrue, List, [], ◌∷◌, ◌++◌, Option, ⊤}
 use Rattle.mysql_records.specs.Formats.{is_special, separator}
-use Rattle.mysql_records.specs.Records.{IsPiece, IsPieces, IsField, EndsField, EndsRecord}
+use Rattle.mysql_records.specs.LentFields.{HasPair, IsCopied}
+use Rattle.mysql_records.specs.Records.{IsPiece, IsPieces, BeginsWithField, EndsRecord}
 use Rattle.mysql_records.specs.Faults.{IsFaultAt, IsFieldBefore}
 use Rattle.mysql_records.specs.declared.fault.FaultKind.{FaultKind}
 use Rattle.mysql_records.specs.declared.fields.FieldEnd.{FieldEnd}
@@ -10,6 +11,8 @@ use Rattle.mysql_records.specs.declared.fields.FieldEnd.TheVariants.{Separator, 
 use Rattle.mysql_records.specs.declared.fields.FieldError.{FieldError}
 use Rattle.mysql_records.specs.declared.fields.FieldError.TheVariants.{Fault, Memory}
 use Rattle.mysql_records.specs.declared.format.RecordFormat.{RecordFormat}
+use Rattle.mysql_records.specs.declared.lent.LentField.{LentField}
+use Rattle.mysql_records.specs.declared.lent.LentField.TheVariants as lent
 
 -- the text begins with no piece
 unfoldable pub StartsNoPiece : RecordFormat → Bool → List ℕ → Type 0
@@ -24,13 +27,11 @@ pub record BeginsWithPieces (format : RecordFormat) (quoted : Bool) (text bytes 
   pub are_pieces : IsPieces format quoted bytes front
   pub longest : StartsNoPiece format quoted rest
 
--- the text is a field, followed by this rest, which can follow a field
-pub record BeginsWithField (format : RecordFormat) (text : List ℕ) (field : Option (List ℕ))
-    (rest : List ℕ) : Type 0 where
-  pub front : List ℕ
-  pub whole : text ≡ front ++ rest
-  pub is_field : IsField format field front
-  pub ends : EndsField format rest
+-- how the pieces at the front of the text are held: lent, unless one of them has two bytes
+abbrev pub AreHeldPieces : RecordFormat → Bool → List ℕ → LentField → Type 0
+AreHeldPieces format quoted text lent.Null = ⊥
+AreHeldPieces format quoted text (lent.Lent bytes) = HasPair format quoted text → ⊥
+AreHeldPieces format quoted text (lent.Made bytes) = HasPair format quoted text
 
 -- the first byte of the text, if it has one, is special
 abbrev pub BeginsSpecial : RecordFormat → Bool → List ℕ → Type 0
@@ -51,7 +52,7 @@ pub record IsFaultyField (format : RecordFormat) (text : List ℕ) (kind : Fault
   pub before : IsFieldBefore format back kind front
   pub stands : IsFaultAt format kind back
 
--- a fault of the text; nothing is said about out of memory
+-- a fault of the text, or out of memory for a field that is copied
 abbrev pub IsFieldRefusal : RecordFormat → List ℕ → FieldError → Type 0
 IsFieldRefusal format text (Fault kind back) = IsFaultyField format text kind back.now
-IsFieldRefusal format text (Memory error) = ⊤
+IsFieldRefusal format text (Memory error) = IsCopied format text

@@ -3,5 +3,7 @@ pub mod Records
 pub mod WrittenRecords
 pub mod Writers
 pub mod Faults
+pub mod FaultyPieces
 pub mod Seen
+pub mod LentFields
 pub mod Fields

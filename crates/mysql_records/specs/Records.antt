@@ -56,6 +56,14 @@ pub data EndsField (format : RecordFormat) : List ℕ → Type 0 where
   at_separator : (rest : List ℕ) → EndsField format (separator format ∷ rest)
   at_record_end : (text rest : List ℕ) → EndsRecord format text rest → EndsField format text
 
+-- the text is a field, followed by this rest, which can follow a field
+pub record BeginsWithField (format : RecordFormat) (text : List ℕ) (field : Option (List ℕ))
+    (rest : List ℕ) : Type 0 where
+  pub front : List ℕ
+  pub whole : text ≡ front ++ rest
+  pub is_field : IsField format field front
+  pub ends : EndsField format rest
+
 -- the text is a record of these fields, its end, and this rest
 pub record IsRecordThen (format : RecordFormat) (text : List ℕ) (fields : List (Option (List ℕ)))
     (rest : List ℕ) : Type 0 where

@@ -1,11 +1,12 @@
 -- Writers that are in use, and the bytes that each can write: of CSV and TSV; servers, by
 -- `SELECT .. INTO OUTFILE` with escapes, except for MariaDB's columns of the type BIT, whose bytes
--- it writes as they are; and clients, by `mysql --batch` (sources: see WrittenRecords).
-use Rattle.std.specs.Prelude.{ℕ, Bool, true, false, ◌==◌, List, [], ◌∷◌, codes, Option, Some, None, if◌then◌else◌}
+-- it writes as they are; and clients, by `mysql --batch`, which writes the names of columns as they
+-- are in its first line (sources: see WrittenRecords).
+use Rattle.std.specs.Prelude.{ℕ, Bool, true, false, ◌==◌, ◌≢◌, List, [], ◌∷◌, ◌++◌, map, codes, Option, Some, None, if◌then◌else◌, IsFalse, All}
 use Rattle.std.specs.List.{list_any}
 use Rattle.std.specs.Str.{byte}
-use Rattle.mysql_records.specs.Formats.{newline}
-use Rattle.mysql_records.specs.WrittenRecords.{Writer}
+use Rattle.mysql_records.specs.Formats.{is_special, newline}
+use Rattle.mysql_records.specs.WrittenRecords.{Writer, Cell, written_table}
 use Rattle.mysql_records.specs.declared.format.RecordFormat.{RecordFormat}
 use Rattle.mysql_records.specs.declared.format.RecordFormat.TheVariants.{Csv, Tsv, MysqlCsv, MysqlTsv}
 
@@ -49,7 +50,30 @@ client_escape quoted b =
     if b == newline then Some (byte "n") else (
     if b == byte "\t" then Some (byte "t") else escape_among (codes "\\") b)
 
--- `mysql --batch`, which writes NULL as these four letters, so as a field that isn't NULL
+-- The rows of `mysql --batch`. It writes NULL as these four letters, so as a field that isn't NULL.
 abbrev pub client_writer : Writer
 client_writer =
     record { format = MysqlTsv; line_end = newline ∷ []; ends_last = true; escape = client_escape }
+
+-- the first line of `mysql --batch`, in which no byte is escaped
+abbrev pub names_writer : Writer
+names_writer =
+    record { format = MysqlTsv; line_end = newline ∷ []; ends_last = true; escape = λ quoted b. None }
+
+-- the fields of names
+abbrev pub name_fields : List (List ℕ) → List (Option (List ℕ))
+name_fields names = map Some names
+
+-- names to write
+abbrev pub name_cells : List (List ℕ) → List Cell
+name_cells names = map (λ name. record { field = Some name; quoted = false }) names
+
+-- all that `mysql --batch` writes: the line of the names, and the rows
+abbrev pub client_table : List (List ℕ) → List (List Cell) → List ℕ
+client_table names rows =
+    written_table names_writer (name_cells names ∷ []) ++ written_table client_writer rows
+
+-- one name or more, and no tab, newline and backslash in them
+abbrev pub ArePlainNames : List (List ℕ) → Type 0
+ArePlainNames names =
+    (names ≢ []) × All (λ name. IsFalse (list_any (is_special MysqlTsv false) name)) names

@@ -1,7 +1,7 @@
 //! Faults of records, and the error of reading one.
 use std::alloc::AllocError;
 
-/// The kind of a fault: bytes that no record has at their place.
+/// The kind of a fault: a piece of text that no record has at its place.
 #[derive(Debug, Clone, Copy, PartialEq, Eq)]
 pub enum FaultKind {
     /// A carriage return outside of quotes that isn't before a newline, in CSV and TSV.
@@ -17,15 +17,20 @@ pub enum FaultKind {
     UnknownEscape,
 }
 
-/// The place at which a text isn't records. It is the quote before a field that no quote ends, or
-/// else the first byte that no record has at its place. The bytes before it are the front of a
-/// record ([`faults_are_first`](crate::laws::faults_are_first)). A text has at most one fault
-/// ([`faults_are_unambiguous`](crate::laws::faults_are_unambiguous)).
+/// The place at which a text isn't records. Here the first piece begins that no record has at its
+/// place: a quote, or the byte behind one; a carriage return or a backslash, with the byte after
+/// it; or a quote that no quote ends, with the rest of the text. Example: in the MySQL formats the
+/// fault of `a\q` is its backslash, although the record `a\n` has that byte, too.
+///
+/// The bytes before a fault are the front of a record
+/// ([`faults_are_first`](crate::laws::faults_are_first)), and with its piece they aren't
+/// ([`faulty_pieces_are_first`](crate::laws::faulty_pieces_are_first)). A text has at most one
+/// fault ([`faults_are_unambiguous`](crate::laws::faults_are_unambiguous)).
 #[derive(Debug, Clone, Copy, PartialEq, Eq)]
 pub struct Fault {
-    /// The index of the byte.
+    /// The index of the first byte of the piece.
     pub at: usize,
-    /// The kind of the fault at this byte.
+    /// The kind of the fault.
     pub kind: FaultKind,
 }
 
@@ -34,7 +39,8 @@ pub struct Fault {
 pub enum RecordError {
     /// The text doesn't begin with a record.
     Fault(Fault),
-    /// Memory was refused. This can also come in place of a fault, but not for an empty text.
+    /// Memory was refused. This can also come in place of a fault. It doesn't come where no memory is
+    /// asked for: for an empty text, and if the first field has a fault and isn't copied.
     Memory(AllocError),
 }
 

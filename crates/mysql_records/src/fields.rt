@@ -3,9 +3,10 @@ ghost use Rattle.std.specs.Prelude.{◌≡◌, ◌≢◌, ℕ, IfErr, IfOk, IfNo
 ghost use Rattle.std.specs.Str.{byte};
 ghost use Rattle.mysql_records.specs.Formats.{backslash, has_escapes, has_quotes, quote, separator};
 ghost use Rattle.mysql_records.specs.Seen.{lent_seen};
-ghost use Rattle.mysql_records.specs.Fields.{BeginsWithField, IsFieldEnd, IsFieldRefusal, StartsNoPiece};
+ghost use Rattle.mysql_records.specs.Fields.{IsFieldEnd, IsFieldRefusal, StartsNoPiece};
+ghost use Rattle.mysql_records.specs.LentFields.{IsHeld};
 ghost use Rattle.mysql_records.specs.Faults.{BeginsWithNoNull, IsFaultAt, IsFieldBefore};
-ghost use Rattle.mysql_records.specs.Records.{EndsField, IsPieces};
+ghost use Rattle.mysql_records.specs.Records.{BeginsWithField, EndsField, IsPieces};
 
 use crate::fault::FaultKind;
 use crate::format::RecordFormat;
@@ -50,6 +51,7 @@ pub(crate) fn first_field<'a>(
 ) -> Result<(LentField<'a>, &'a [u8]), FieldError<'a>>
     ensures read { IfOk result (λ read.
         BeginsWithField format text.now (lent_seen read.0) read.1.now) }
+    ensures held { IfOk result (λ read. IsHeld format text.now read.0) }
     ensures refused { IfErr result (IsFieldRefusal format text.now) }
 {
     if let Some(rest) = behind_null(format, text) {
@@ -72,6 +74,7 @@ fn enclosed_field<'a>(
     requires whole { text.now ≡ quote ∷ tail.now }
     ensures read { IfOk result (λ read.
         BeginsWithField format text.now (lent_seen read.0) read.1.now) }
+    ensures held { IfOk result (λ read. IsHeld format text.now read.0) }
     ensures refused { IfErr result (IsFieldRefusal format text.now) }
 {
     let (field, back) = lent_pieces(alloc, format, true, tail)?;
@@ -115,6 +118,7 @@ fn bare_field<'a>(
         text.now ≡ backslash ∷ byte "N" ∷ rest → EndsField format rest → ⊥ }
     ensures read { IfOk result (λ read.
         BeginsWithField format text.now (lent_seen read.0) read.1.now) }
+    ensures held { IfOk result (λ read. IsHeld format text.now read.0) }
     ensures refused { IfErr result (IsFieldRefusal format text.now) }
 {
     let (field, back) = lent_pieces(alloc, format, false, text)?;

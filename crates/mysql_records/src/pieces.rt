@@ -1,9 +1,10 @@
 //! The bytes of a field, as a text has them.
-ghost use Rattle.std.specs.Prelude.{◌≡◌, ◌≢◌, ℕ, ◌<◌, ◌≤◌, IfOk, IfSome, IfNone, IsFalse, IsTrue, ◌∷◌, ◌++◌, List, Some, length, slice_index, take};
+ghost use Rattle.std.specs.Prelude.{◌≡◌, ◌≢◌, ℕ, ◌<◌, ◌≤◌, IfErr, IfOk, IfSome, IfNone, IsFalse, IsTrue, ◌∷◌, ◌++◌, List, Some, length, slice_index, take};
 ghost use Rattle.std.specs.List.{list_any};
 ghost use Rattle.mysql_records.specs.Formats.{doubles_quotes, escape_value, has_escapes, is_special};
 ghost use Rattle.mysql_records.specs.Records.{IsPiece};
-ghost use Rattle.mysql_records.specs.Fields.{BeginsSpecial, BeginsWithPieces, StartsNoPiece};
+ghost use Rattle.mysql_records.specs.Fields.{AreHeldPieces, BeginsSpecial, BeginsWithPieces, StartsNoPiece};
+ghost use Rattle.mysql_records.specs.LentFields.{HasPair};
 ghost use Rattle.mysql_records.specs.Seen.{lent_seen};
 
 use crate::format::RecordFormat;
@@ -18,8 +19,10 @@ pub(crate) fn lent_pieces<'a>(
     quoted: bool,
     text: &'a [u8],
 ) -> Result<(LentField<'a>, &'a [u8]), AllocError>
-    ensures { IfOk result (λ read. (bytes : List ℕ) × (lent_seen read.0 ≡ Some bytes)
+    ensures read { IfOk result (λ read. (bytes : List ℕ) × (lent_seen read.0 ≡ Some bytes)
         × BeginsWithPieces format quoted text.now bytes read.1.now) }
+    ensures held { IfOk result (λ read. AreHeldPieces format quoted text.now read.0) }
+    ensures memory { IfErr result (λ error. HasPair format quoted text.now) }
 {
     let len = raw_len(format, quoted, text);
     let rest = &text[len..];
@@ -77,7 +80,7 @@ fn raw_len(format: RecordFormat, quoted: bool, text: &[u8]) -> usize
 fn pair<'a>(format: RecordFormat, quoted: bool, text: &'a [u8]) -> Option<(u8, &'a [u8])>
     requires { BeginsSpecial format quoted text.now }
     ensures some { IfSome result (λ read. (piece : List ℕ) × IsPiece format quoted read.0 piece
-        × (text.now ≡ piece ++ read.1.now)) }
+        × (text.now ≡ piece ++ read.1.now) × (length piece ≡ 2)) }
     ensures shorter { IfSome result (λ read. length read.1.now < length text.now) }
     ensures none { IfNone result (StartsNoPiece format quoted text.now) }
 {

@@ -1,6 +1,7 @@
 //! A record at the front of a text.
-ghost use Rattle.std.specs.Prelude.{◌≡◌, ◌≢◌, ◌<◌, length, IfErr, IfOk, IfSome, IsNone, ◌↔◌, []};
+ghost use Rattle.std.specs.Prelude.{◌≡◌, ◌≢◌, ◌<◌, ◌≤◌, length, IfErr, IfNone, IfOk, IfSome, IsNone, ◌↔◌, [], vec_capacity};
 ghost use Rattle.mysql_records.specs.Faults.{IsRefusal};
+ghost use Rattle.mysql_records.specs.LentFields.{AreFieldsBeforeError, AreHeld, HasMemoryCause};
 ghost use Rattle.mysql_records.specs.Records.{BeginsWithRecord};
 ghost use Rattle.mysql_records.specs.Seen.{fields_seen, lent_fields_seen};
 
@@ -29,7 +30,8 @@ pub struct Record<'a> {
 }
 
 /// Returns the record at the front of a text, or `None` exactly if the text is empty. To read all
-/// records, go on with the `rest` of each. The time is linear in the length of the record.
+/// records, go on with the `rest` of each. The time is linear in the length of the record. It asks
+/// for memory only if the text begins with a field, or with one that is copied up to its fault.
 pub fn first_record<'a>(
     alloc: Global,
     format: RecordFormat,
@@ -42,6 +44,7 @@ pub fn first_record<'a>(
         length read.rest.now < length text.now)) }
     ensures refused { IfErr result (IsRefusal format text.now) }
     ensures some { IfErr result (λ error. text.now ≢ []) }
+    ensures memory { IfErr result (HasMemoryCause format text.now) }
 {
     let mut lent = Vec::new(alloc);
     let Some(rest) = first_record_into(alloc, format, text, &mut lent)? else {
@@ -67,9 +70,14 @@ fn owned_fields(alloc: Global, lent: Vec<LentField<'_>>) -> Result<Vec<Field>, A
 }
 
 /// Reads the record at the front of a text into the vector, in place of the fields that it has.
-/// Returns the text after the record's line end, or `None` exactly if the text is empty. The record
-/// is the same as for [`first_record`], but bytes that the text has as they are aren't copied. So
-/// one vector is enough for all records of a text.
+/// Returns the text after the record's line end, or `None` exactly if the text is empty. Then the
+/// vector is empty, too. The record is the same as for [`first_record`], but a field is lent unless
+/// the text has a quote or a backslash before one of its bytes. So one vector is enough for all
+/// records of a text.
+///
+/// It asks for memory only for a field that is copied, or if the vector's capacity is too small for
+/// the fields. After an error the vector has the fields before the one that isn't read, which has
+/// the fault or asked for the memory.
 pub fn first_record_into<'a>(
     alloc: Global,
     format: RecordFormat,
@@ -83,6 +91,11 @@ pub fn first_record_into<'a>(
         length rest.now < length text.now)) }
     ensures refused { IfErr result (IsRefusal format text.now) }
     ensures some { IfErr result (λ error. text.now ≢ []) }
+    ensures lent { AreHeld format text.now fields.new.items }
+    ensures empty { IfOk result (λ found. IfNone found (fields.new.items ≡ [])) }
+    ensures before { IfErr result (AreFieldsBeforeError format text.now
+        (vec_capacity fields.old) (lent_fields_seen fields.new.items)) }
+    ensures room { vec_capacity fields.old ≤ vec_capacity fields.new }
 {
     fields.clear();
     if text.is_empty() {

@@ -1,6 +1,7 @@
 //! All records of a text.
 ghost use Rattle.std.specs.Prelude.{◌≢◌, IfErr, IfOk, []};
 ghost use Rattle.mysql_records.specs.Faults.{IsTableRefusal};
+ghost use Rattle.mysql_records.specs.LentFields.{HasMemoryCause};
 ghost use Rattle.mysql_records.specs.Records.{IsTable};
 ghost use Rattle.mysql_records.specs.Seen.{rows_seen};
 
@@ -23,6 +24,7 @@ pub fn all_rows(alloc: Global, format: RecordFormat, text: &[u8]) -> Result<Vec<
     ensures table { IfOk result (λ rows. IsTable format (rows_seen rows.items) text.now) }
     ensures refused { IfErr result (IsTableRefusal format text.now) }
     ensures some { IfErr result (λ error. text.now ≢ []) }
+    ensures memory { IfErr result (HasMemoryCause format text.now) }
 {
     let mut rows = Vec::new(alloc);
     let mut rest = text;

@@ -1,4 +1,4 @@
-use Rattle.mysql_records.proofs.WriterLemmas.{usual_writer_is, usual_field, client_writer_is, client_field}
+use Rattle.mysql_records.proofs.WriterLemmas.{usual_writer_is, usual_field, client_writer_is, client_field, client_table_is}
 use Rattle.mysql_records.proofs.laws.usual_writers_are_writers.Goals as goal
 
 pub returns-clause-writers : goal.returns-clause-writers
@@ -12,3 +12,6 @@ returns-clause-clients c = client_writer_is
 
 pub returns-clause-client_fields : goal.returns-clause-client_fields
 returns-clause-client_fields c = client_field
+
+pub returns-clause-client_tables : goal.returns-clause-client_tables
+returns-clause-client_tables c = client_table_is

@@ -1,4 +1,4 @@
-use Rattle.std.proofs.Common.{◌≡◌, ◌∙◌, sym, ap, [], ◌∷◌, Some, None, arith, length, true≢false}
+use Rattle.std.proofs.Common.{◌≡◌, ◌∙◌, sym, ap, [], ◌∷◌, Some, None, arith, length, refl, true≢false}
 use Rattle.mysql_records.specs.Formats.{backslash, escape_value, quote}
 use Rattle.mysql_records.specs.Records.{doubled, escape}
 use Rattle.mysql_records.proofs.PieceLemmas.{none_doubled, none_escape}
@@ -21,7 +21,7 @@ pub returns-then-doubles_quotes-clause-some : goal.returns-then-doubles_quotes-c
 returns-then-doubles_quotes-clause-some c =
     let first : c.args.text.now ≡ quote ∷ c.in_ok-behind.field-0.now = c.in_ok-behind.ensures.some in
     let second : c.in_ok-behind.field-0.now ≡ quote ∷ c.in_ok-rest.rest.now = c.in_ok-rest.ensures.some in
-    (quote ∷ quote ∷ [], doubled (sym c.if-doubles_quotes.ensures), first ∙ ap (λ x. quote ∷ x) second)
+    (quote ∷ quote ∷ [], doubled (sym c.if-doubles_quotes.ensures), first ∙ ap (λ x. quote ∷ x) second, refl)
 
 pub returns-in_err-behind-2-clause-none : goal.returns-in_err-behind-2-clause-none
 returns-in_err-behind-2-clause-none c =
@@ -57,6 +57,7 @@ returns-then-has_escapes-clause-some c =
       backslash ∷ c.in_ok-second.second.now ∷ [],
       escape c.in_ok-second.second.now c.in_ok-escape_value.field-0 (sym c.if-has_escapes.ensures) (sym c.in_ok-escape_value.ensures),
       text ∙ ap (λ x. backslash ∷ x) more,
+      refl,
     )
 
 pub returns-clause-none : goal.returns-clause-none
