@@ -1,5 +1,5 @@
 -- The faults of a text, which no record has at their places, and the text that is read before one.
--- At a fault the first piece begins that no record has there (FaultyPieces has the pieces): the laws
+-- At a fault begins the first piece that no record has there (see FaultyPieces): the laws
 -- `faults_are_first`, `faulty_pieces_are_first` and `faults_are_unambiguous`.
 use Rattle.std.specs.Prelude.{◌≡◌, ◌≢◌, ℕ, ◌<◌, true, false, IsTrue, IsFalse, List, [], ◌∷◌, ◌++◌, length, take, drop, Option, None, ⊤}
 use Rattle.std.specs.Str.{byte}

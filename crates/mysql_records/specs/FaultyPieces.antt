@@ -19,16 +19,16 @@ abbrev pub IsFrontOfTable : RecordFormat → List ℕ → Type 0
 IsFrontOfTable format text = (more : List ℕ) × (rows : List (List (Option (List ℕ))))
     × IsTable format rows (text ++ more)
 
--- The first place of a text that is wrong: the bytes before it are a front, and with the byte at
--- this place they aren't. At the end of the text there is no byte: there the text is a front.
+-- The first wrong place of a text: the bytes before it are a front, and with the byte at this place
+-- they aren't. If it is the end of the text, the whole text is a front.
 pub record IsFirstWrong (IsFront : List ℕ → Type 0) (text : List ℕ) (place : ℕ) : Type 0 where
   pub within : place ≤ length text
   pub before : IsFront (take place text)
   pub wrong : place < length text → IsFront (take (place + 1) text) → ⊥
 
--- The place of the last byte of a faulty piece, counted from its first. A quote, and a byte behind
--- one, is a piece. A carriage return and a backslash make one with the byte after them, and `\N`
--- can make one with the byte after it. From an open quote on, the piece is the text and its end.
+-- The last place of a faulty piece, counted from its first byte. A stray quote is one byte, and so
+-- is what is behind a quote. A carriage return, a backslash and `\N` take the byte after them, or
+-- the end of the text. An open quote takes all bytes, and the end of the text.
 abbrev pub IsLastOfPiece : FaultKind → List ℕ → ℕ → Type 0
 IsLastOfPiece StrayReturn back last = last ≡ 1
 IsLastOfPiece StrayQuote back last = last ≡ 0

@@ -57,8 +57,12 @@ client_writer =
 
 -- the first line of `mysql --batch`, in which no byte is escaped
 abbrev pub names_writer : Writer
-names_writer =
-    record { format = MysqlTsv; line_end = newline ∷ []; ends_last = true; escape = λ quoted b. None }
+names_writer = record {
+  format = MysqlTsv;
+  line_end = newline ∷ [];
+  ends_last = true;
+  escape = λ quoted b. None;
+}
 
 -- the fields of names
 abbrev pub name_fields : List (List ℕ) → List (Option (List ℕ))

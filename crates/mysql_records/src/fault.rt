@@ -39,8 +39,8 @@ pub struct Fault {
 pub enum RecordError {
     /// The text doesn't begin with a record.
     Fault(Fault),
-    /// Memory was refused. This can also come in place of a fault. It doesn't come where no memory is
-    /// asked for: for an empty text, and if the first field has a fault and isn't copied.
+    /// Memory was refused. This can also come in place of a fault. No memory is asked for if the
+    /// text is empty, or if its first field has a fault and isn't copied.
     Memory(AllocError),
 }
 

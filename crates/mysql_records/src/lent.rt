@@ -5,7 +5,7 @@ ghost use Rattle.mysql_records.specs.Seen.{field_seen, lent_seen};
 use crate::record::Field;
 use std::alloc::{AllocError, Global};
 
-/// A field of a record. Its bytes are copied exactly if the text has other bytes between them.
+/// A field of a record. Its bytes are copied only if the text doesn't have them one after another.
 #[derive(Debug, Drop)]
 pub enum LentField<'a> {
     /// `\N` without quotes, in the MySQL formats.
