@@ -1,6 +1,6 @@
 //! A query whose places are matched with the columns of a table, once for all rows. Each row is
 //! bound from its cells, which borrow their bytes.
-ghost use Rattle.std.specs.Prelude.{◌≡◌, ◌++◌, ◌<◌, ℕ, false, true, List, length, map, Some, IfOk, IfErr, IfSome, IsTrue, IsFalse, OnErr, OnOk};
+ghost use Rattle.std.specs.Prelude.{◌≡◌, ◌++◌, ◌<◌, ◌⊎◌, ℕ, false, true, List, length, map, Some, IfOk, IfErr, IfSome, IsErrOf, IsTrue, IsFalse, OnErr, OnOk, alloc_error};
 ghost use Rattle.std.specs.List.{slice_get};
 ghost use Rattle.mysql_values.specs.BorrowedValue.{owned_values};
 ghost use Rattle.mysql_named_params.specs.Reading.{OnWideTokens};
@@ -9,7 +9,7 @@ ghost use Rattle.mysql_params_core.specs.Referents.{referents};
 ghost use Rattle.mysql_bind_core.specs.Bound.{IsTaken};
 ghost use Rattle.mysql_bind_core.specs.Cells.{AreAssigned, AreNumbersOf, TableQuery, are_distinct_names, value_said};
 ghost use Rattle.mysql_bind_core.specs.Contents.{has_fragment};
-ghost use Rattle.mysql_bind_core.specs.Refusals.{IsQueryRefusal};
+ghost use Rattle.mysql_bind_core.specs.Refusals.{IsCopied, IsQueryRefusal};
 ghost use Rattle.mysql_bind_core.specs.RowTexts.{IsAssignedRowText, IsRowRefusal, IsRowText};
 ghost use Rattle.mysql_bind_core.specs.declared.assignment.Assignment as declared;
 
@@ -55,7 +55,7 @@ impl<'q, 'c> Model for MatchedQuery<'q, 'c> {
 
 impl<'q, 'c> MatchedQuery<'q, 'c> {
     /// Matches the places of a query with columns of these names, or returns why the request
-    /// doesn't take the query.
+    /// doesn't take the query. The error is `Memory` only if that of [`TakenQuery::new`] may be.
     pub fn with_columns(
         alloc: Global,
         query: &'q [u8],
@@ -69,6 +69,8 @@ impl<'q, 'c> MatchedQuery<'q, 'c> {
         }) }
         ensures taken { IfOk result (λ m. IsTaken request query.now) }
         ensures refused { IfErr result (IsQueryRefusal request query.now) }
+        ensures memory { IsErrOf result (Failure.Memory alloc_error) →
+            IsTaken request query.now ⊎ IsCopied request query.now }
     {
         let taken = TakenQuery::new(alloc, query, request)?;
         let numbers = column_numbers(alloc, taken.parsed(), columns)?;

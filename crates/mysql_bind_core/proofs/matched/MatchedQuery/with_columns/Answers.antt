@@ -1,7 +1,7 @@
-use Rattle.std.specs.Prelude.{Option, Some, None}
+use Rattle.std.specs.Prelude.{Option, Some, None, alloc_error}
 use Rattle.std.specs.Global.{Vec}
 use Rattle.std.specs.Option.{IfSome}
-use Rattle.std.proofs.Common.{◌≡◌, ◌<◌, ℕ, List, true, length, refl, subst, sym, arith}
+use Rattle.std.proofs.Common.{◌≡◌, ◌<◌, ℕ, Err, List, true, ap, inl, length, refl, subst, sym, arith}
 use Rattle.std.proofs.lemmas.List.{length-map}
 use Rattle.mysql_named_params.specs.Places.{names}
 use Rattle.mysql_named_params.specs.Reading.{OnWideTokens}
@@ -11,6 +11,8 @@ use Rattle.mysql_bind_core.specs.Bound.{IsTaken}
 use Rattle.mysql_bind_core.specs.Cells.{AreNumbersOf, are_distinct_names}
 use Rattle.mysql_bind_core.specs.MatchedQuery.{HaveNumbers}
 use Rattle.mysql_bind_core.specs.TakenQuery.{RequestedQuery, in_its_mode}
+use Rattle.mysql_bind_core.specs.declared.failure.Failure.TheVariants.{Memory}
+use Rattle.mysql_bind_core.proofs.BindingLemmas.{was_error}
 use Rattle.mysql_bind_core.proofs.matched.MatchedQuery.with_columns.Goals as goal
 
 have_numbers : (query : QueryInMode) (columns : List (List ℕ)) (count : ℕ) (numbers : Option (Vec ℕ)) → length columns ≡ count →
@@ -30,3 +32,10 @@ invariant_of-result c =
       numbered = subst (λ (q : QueryInMode). IfSome c.in_ok-numbers.numbers (λ n. HaveNumbers q (referents c.args.columns.now) n.items)) same
           (have_numbers parsed (referents c.args.columns.now) (length c.args.columns.now) c.in_ok-numbers.numbers (length-map c.args.columns.now (λ r. r.now)) c.in_ok-numbers.ensures.distinct c.in_ok-numbers.ensures.some c.in_ok-numbers.ensures.asked c.in_ok-numbers.ensures.numbers);
     }
+
+pub returns-in_err-taken-clause-memory : goal.returns-in_err-taken-clause-memory
+returns-in_err-taken-clause-memory c = λ memory.
+    c.in_err-taken.ensures.memory (ap (λ e. Err e) (was_error c.from_residual.result c.in_err-taken.field-0.0 (Memory alloc_error) c.from_residual.ensures.1 memory))
+
+pub returns-in_err-numbers-clause-memory : goal.returns-in_err-numbers-clause-memory
+returns-in_err-numbers-clause-memory c = λ memory. inl c.in_ok-taken.ensures.taken
