@@ -262,6 +262,10 @@ fn add_constructs(
     let mut text = Vec::from_slice(alloc, b"  ")?;
     let lowered = lowered_query(alloc, query.bytes.as_slice(), mode)?;
     text.extend_from_slice(lowered.as_slice())?;
+    // With the end of a statement, only a query that ends so may have a construct more.
+    if lowered.as_slice().ends_with(b"--") {
+        text.extend_from_slice(b"\n;")?;
+    }
     let mut from = 0usize;
     let mut texts = ConstructTexts::new(mode);
     let mut count = FaultCount(0);

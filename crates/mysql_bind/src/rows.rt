@@ -17,7 +17,7 @@ use crate::values::{Values, values_of};
 use clap::ArgMatches;
 use mysql_bind_core::{START, TakenQuery};
 use mysql_records::RecordFormat;
-use std::alloc::{AllocError, Global};
+use std::alloc::Global;
 
 // How a table is written.
 #[derive(Clone, Copy, PartialEq, Eq)]
@@ -151,14 +151,6 @@ fn write_objects(
     }
 }
 
-// The query with what ends a statement: what servers read in different ways there, as `.e--` before
-// the newline, they would read so in the script.
-fn ended_text(alloc: Global, query: &[u8]) -> Result<Vec<u8>, AllocError> {
-    let mut ended = Vec::from_slice(alloc, query)?;
-    ended.extend_from_slice(b"\n;\n")?;
-    Ok(ended)
-}
-
 /// Writes the query once for each row of the table.
 pub fn rows(rt: &HostRuntime, matches: &ArgMatches<'_>) -> Result<(), Complaint> {
     let request = request_of(rt.alloc(), matches)?;
@@ -172,9 +164,7 @@ pub fn rows(rt: &HostRuntime, matches: &ArgMatches<'_>) -> Result<(), Complaint>
     let mut sources = Sources::new(rt.alloc());
     let query = read_query(&mut sources, rt, matches.get_str("query").unwrap_or("-"))?;
     let fixed = values_of(&mut sources, rt, matches)?;
-    let ended = ended_text(rt.alloc(), query.bytes.as_slice())?;
-    // What ends the statement has no place, so the query has those that are found here.
-    let places = match TakenQuery::new(rt.alloc(), ended.as_slice(), request) {
+    let places = match TakenQuery::new(rt.alloc(), query.bytes.as_slice(), request) {
         Ok(taken) => name_places(rt.alloc(), &taken)?,
         Err(failure) => {
             let values = Values::new(rt.alloc());

@@ -90,7 +90,7 @@ module _ (request : Request) (query : List ℕ) (given : Given) (text : List ℕ
       go : (p : Portability) → request.portability ≡ p → OnWideTokens false query (λ ts. IsTextFor Steady p ts given text)
       go Any is = (o.0, o.1, one)
       go Portable is =
-          let p = subst (λ l. OnWideTokens (mode_of l) query (λ ts. IsPortableInClient (lower_names ts))) e (taken.portable is) in
+          let p = subst (λ l. OnWideTokens (mode_of l) query (λ ts. IsPortableInClient (lower_names ts))) e (taken.portable is).0 in
           let portable : IsPortableInClient (lower_names o.0) = subst (λ ts. IsPortableInClient (lower_names ts)) (one_reading (wide_reading false) query p.0 o.0 p.1 o.1) p.2 in
           (o.0, o.1, is_wide_anywhere_text query o.0 given text is_true steady portable.portable one)
 

@@ -227,7 +227,7 @@ steady_line ts given text c b mode =
     }
 
 -- the tokens of an expanded query, in which no names are left
-expanded_closed : (mode : Bool) (ts : List Token) (given : GivenFragments) (text : List ℕ) →
+pub expanded_closed : (mode : Bool) (ts : List Token) (given : GivenFragments) (text : List ℕ) →
     IsClosedLowered mode ts → (x : IsExpanded true mode ts given text) → EndClosed mode (with_literal_tokens ts x.lists)
 expanded_closed mode ts given text c x =
     replaced_closed mode ts x.lists c (places_filled mode ts (map fragment_text x.fragments) x.lists text x.tokens_of_fragments x.text_is) x.isolated.each

@@ -1,26 +1,30 @@
--- The script of groups of records: the tokens of it, and that a client sends it as it is.
+-- The script of groups of records: its tokens, that every server reads it alike, and what a client makes
+-- of it.
 use Rattle.std.specs.Prelude.{Bool}
 use Rattle.std.proofs.Common.{◌≡◌, ◌++◌, ◌∙◌, ℕ, List, [], ◌∷◌, ap, subst}
 use Rattle.mysql_named_params.specs.Tokens.{Token, IsTokens, OnTokens}
 use Rattle.mysql_named_params.proofs.TokenListLemmas.{one_token_list}
 use Rattle.mysql_portable.specs.FirstUnportableInClient.{IsPortableInClient}
+use Rattle.mysql_portable.specs.Portable.{AreReadAlike}
 use Rattle.mysql_binding.specs.Replaced.{AreTokensOf}
 use Rattle.mysql_fragments.specs.GivenFragments.{named}
 use Rattle.mysql_records.specs.Records.{IsTable}
 use Rattle.mysql_bind_core.specs.Groups.{AreGroups, AreGroupsAppended, more_groups, no_groups, records_of}
-use Rattle.mysql_bind_core.specs.Requests.{mode_of}
+use Rattle.mysql_bind_core.specs.Requests.{IsReadIn, mode_of}
 use Rattle.mysql_bind_core.specs.RowItems.{RowsSaid}
 use Rattle.mysql_bind_core.specs.RowsBound.{IsRowsWritten}
 use Rattle.mysql_bind_core.specs.Scripts.{closing, opening}
-use Rattle.mysql_bind_core.specs.ScriptTokens.{IsReadIn, IsSentByClient, script_tokens}
+use Rattle.mysql_bind_core.specs.ScriptTokens.{IsSentByClient, script_tokens}
 use Rattle.mysql_bind_core.specs.Tables.{BeginsWithRecords, Fields, no_records}
 use Rattle.mysql_bind_core.specs.TakenQuery.{RequestedQuery}
 use Rattle.mysql_bind_core.specs.declared.assignment.Assignment.{Assignment}
 use Rattle.mysql_bind_core.specs.declared.group_form.GroupForm.{GroupForm}
 use Rattle.mysql_bind_core.specs.declared.request.Portability.TheVariants as portability
+use Rattle.mysql_bind_core.proofs.AlikeLineLemmas.{AreLinesReadAlike, script_alike}
 use Rattle.mysql_bind_core.proofs.BoundLineLemmas.{HasLine, closed_lowered}
+use Rattle.mysql_bind_core.proofs.EndedTextLemmas.{line_of_fragments}
 use Rattle.mysql_bind_core.proofs.RowItemLemmas.{records_behind, records_of_rows}
-use Rattle.mysql_bind_core.proofs.ScriptSentLemmas.{AreInClient, own_mode, script_kept}
+use Rattle.mysql_bind_core.proofs.ScriptSentLemmas.{AreInClient, script_kept}
 use Rattle.mysql_bind_core.proofs.ScriptTokenLemmas.{HasLines, named_line, tokens_of_lines}
 use Rattle.mysql_bind_core.proofs.TableLemmas.{table_of}
 
@@ -60,21 +64,39 @@ tokens_of_groups query form text groups rest transaction mode after bytes r s wh
     tokens_of_lines transaction mode s.texts bytes (groups_lines query form mode r text groups s.texts rest s.are)
     (whole ∙ ap (λ front. front ++ closing transaction) s.bytes)
 
--- ---- what a client sends
+-- ---- what servers and clients read
 
-module _ (query : RequestedQuery) (form : GroupForm) (e : query.request.portability ≡ portability.Portable) where
+module _ (query : RequestedQuery) (form : GroupForm) (e : query.request.portability ≡ portability.Portable) (mode : Bool) (r : IsReadIn query.request.literals mode) where
   groups_in_client : (text : List ℕ) (groups : List (List Fields)) (texts : List (List ℕ)) (rest : List ℕ) (lists : List (List Token)) →
-      AreGroups query form text groups texts rest → AreTokensOf (mode_of query.request.literals) texts lists → AreInClient lists
+      AreGroups query form text groups texts rest → AreTokensOf mode texts lists → AreInClient lists
   groups_in_client text groups texts rest [] (no_groups t) a = tt
   groups_in_client text groups texts rest (us ∷ lists) (no_groups t) a = absurd a
   groups_in_client text groups texts rest [] (more_groups rs w gs ts t b behind first others) a = absurd a
   groups_in_client text groups texts rest (us ∷ lists) (more_groups rs w gs ts t b behind first others) a =
-      let p = first.is_written.portable_text e in
-      (subst IsPortableInClient (one_token_list (mode_of query.request.literals) w p.0 us p.1 a.0) p.2, groups_in_client b gs ts behind lists others a.1)
+      let p = first.is_written.portable_text e mode r in
+      (subst IsPortableInClient (one_token_list mode w p.0 us p.1 a.0) p.2, groups_in_client b gs ts behind lists others a.1)
+
+  groups_alike : (text : List ℕ) (groups : List (List Fields)) (texts : List (List ℕ)) (rest : List ℕ) (lists : List (List Token)) →
+      AreGroups query form text groups texts rest → AreTokensOf mode texts lists → AreLinesReadAlike lists
+  groups_alike text groups texts rest [] (no_groups t) a = tt
+  groups_alike text groups texts rest (us ∷ lists) (no_groups t) a = absurd a
+  groups_alike text groups texts rest [] (more_groups rs w gs ts t b behind first others) a = absurd a
+  groups_alike text groups texts rest (us ∷ lists) (more_groups rs w gs ts t b behind first others) a =
+      let x = first.is_written.text_is in (
+        line_of_fragments query.request query.query first.is_written.taken e w mode r us a.0 x.bound.0 (named x.entries) x.bound.1 x.bound.2,
+        groups_alike b gs ts behind lists others a.1,
+      )
 
   pub script_of_groups_in_client : (text : List ℕ) (groups : List (List Fields)) (rest : List ℕ) (transaction : Bool) (after bytes : List ℕ) →
       AreGroupsAppended query form text groups rest (opening transaction) after → bytes ≡ after ++ closing transaction →
-      OnTokens (mode_of query.request.literals) bytes IsSentByClient
+      OnTokens mode bytes IsSentByClient
   script_of_groups_in_client text groups rest transaction after bytes s whole =
-      let t = tokens_of_groups query form text groups rest transaction (mode_of query.request.literals) after bytes (own_mode query.request.literals) s whole in
+      let t = tokens_of_groups query form text groups rest transaction mode after bytes r s whole in
       (script_tokens transaction t.0, t.2, script_kept transaction t.0 (groups_in_client text groups s.texts rest t.0 s.are t.1))
+
+  pub script_of_groups_alike : (text : List ℕ) (groups : List (List Fields)) (rest : List ℕ) (transaction : Bool) (after bytes : List ℕ) →
+      AreGroupsAppended query form text groups rest (opening transaction) after → bytes ≡ after ++ closing transaction →
+      OnTokens mode bytes AreReadAlike
+  script_of_groups_alike text groups rest transaction after bytes s whole =
+      let t = tokens_of_groups query form text groups rest transaction mode after bytes r s whole in
+      (script_tokens transaction t.0, t.2, script_alike transaction t.0 (groups_alike text groups s.texts rest t.0 s.are t.1))

@@ -17,9 +17,14 @@ pub mod ClosedQueryLemmas
 pub mod BoundLineLemmas
 pub mod LoweredTextLemmas
 pub mod ScriptTokenLemmas
+pub mod EachModeLemmas
+pub mod EndedTokenLemmas
 pub mod ScriptCountLemmas
 pub mod AlikeLineLemmas
 pub mod ScriptSentLemmas
+pub mod EndAlikeLemmas
+pub mod EndedTextLemmas
+pub mod ScriptAlikeLemmas
 pub mod TableLemmas
 pub mod RowItemLemmas
 pub mod GroupLemmas

@@ -75,7 +75,7 @@ last_text (DashComment gap tail) =
     ]
 last_text t = own_line (bytes_of t)
 
-newline_text : (ts : List Token) → text_of (with_newline ts) ≡ text_of ts ++ newline ∷ []
+pub newline_text : (ts : List Token) → text_of (with_newline ts) ≡ text_of ts ++ newline ∷ []
 newline_text [] = refl
 newline_text (t ∷ []) = last_text t
 newline_text (t ∷ u ∷ ts) = ap (λ x. bytes_of t ++ x) (newline_text (u ∷ ts)) ∙ sym (append_assoc (bytes_of t) (text_of (u ∷ ts)) (newline ∷ []))
@@ -121,7 +121,7 @@ last_before mode (DashComment gap tail) more h c =
     ]
 last_before mode t more h c = (token_then_newline mode t [] line_end more (λ e. cc) c h, (plain_newline mode more, tt))
 
-newline_before : (mode : Bool) (ts : List Token) (more : List ℕ) → AreTokensBefore mode [] ts → EndClosed mode ts →
+pub newline_before : (mode : Bool) (ts : List Token) (more : List ℕ) → AreTokensBefore mode [] ts → EndClosed mode ts →
     AreTokensBefore mode more (with_newline ts)
 newline_before mode [] more h c = (plain_newline mode more, tt)
 newline_before mode (t ∷ []) more h c = last_before mode t more h.0 c

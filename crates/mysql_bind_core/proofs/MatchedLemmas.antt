@@ -6,7 +6,8 @@ use Rattle.std.specs.Borrow.{Bor}
 use Rattle.std.specs.Cmp.Lexicographic.{pointwise}
 use Rattle.std.specs.FinMap as finite
 use Rattle.std.specs.FinMap.{contains_key, get, insert}
-use Rattle.std.proofs.Common.{◌≡◌, ◌<◌, ◌≤◌, ◌+◌, ◌++◌, ◌&&◌, ◌∙◌, ℕ, suc, zero, Bool, true, false, cond, List, [], ◌∷◌, length, map, take, drop, get_or, inl, inr, refl, sym, ap, append-nil, append_assoc, take-append-drop, subst, arith, true≢false}
+use Rattle.std.proofs.Common.{◌≡◌, ◌<◌, ◌≤◌, ◌+◌, ◌-◌, ◌++◌, ◌&&◌, ◌∙◌, ℕ, suc, zero, Bool, true, false, cond, List, [], ◌∷◌, length, map, take, drop, get_or, inl, inr, refl, sym, ap, append-nil, append_assoc, take-append-drop, subst, arith, length-drop, true≢false}
+use Rattle.std.proofs.Math.Seq.{drop-append_seam}
 use Rattle.std.proofs.lemmas.Bool.{and_parts, cases_Bool}
 use Rattle.std.proofs.lemmas.List.{at_drop_all, get_or-map, length-map, map-append, take_more}
 use Rattle.mysql_values.specs.declared.value.Value.{Value}
@@ -238,6 +239,13 @@ said_no_cells (n ∷ ns) = refl
 
 pub all_taken : {X : Type 0} (xs : List X) (i : ℕ) → length xs ≤ i → take i xs ≡ xs
 all_taken xs i past = sym (append-nil (take i xs)) ∙ ap (λ ys. take i xs ++ ys) (sym (all_dropped xs i past)) ∙ take-append-drop i xs
+
+-- the part of a slice from where the old items end
+pub text_behind : (start : ℕ) (old slice after text : List ℕ) → start ≡ length old → slice ≡ after → after ≡ old ++ text →
+    take (length slice - start) (drop start slice) ≡ text
+text_behind start old slice after text s a b =
+    all_taken (drop start slice) (length slice - start) (omega (arith, length-drop start slice))
+    ∙ ap (λ n. drop n slice) s ∙ ap (drop (length old)) (a ∙ b) ∙ drop-append_seam old text
 
 -- nothing is left to say: no column, or no cell
 pub all_said : (columns : List (List ℕ)) (cells : List Cell) (i : ℕ) (assigned : List Assignment) → length columns ≤ i →

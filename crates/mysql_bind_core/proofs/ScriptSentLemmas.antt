@@ -14,14 +14,12 @@ use Rattle.mysql_portable.specs.FoundInClient.{begins_statement, begins_line, fo
 use Rattle.mysql_binding.specs.Replaced.{AreTokensOf}
 use Rattle.mysql_binding.proofs.SentLiteralLemmas.{AreSentBefore-append, line_after-append, statement_after-append}
 use Rattle.mysql_binding.proofs.SentTextLemmas.{AreSentBefore, found_moves, line_after, no_word_found, none_from, none_parts, statement_after, up_to_line}
-use Rattle.mysql_bind_core.specs.Requests.{mode_of}
-use Rattle.mysql_bind_core.specs.declared.request.Literals.{Literals}
-use Rattle.mysql_bind_core.specs.declared.request.Literals.TheVariants as literals
+use Rattle.mysql_bind_core.specs.Requests.{IsReadIn}
 use Rattle.mysql_bind_core.specs.declared.request.Portability.TheVariants as portability
 use Rattle.mysql_bind_core.specs.declared.request.Request.{Request}
 use Rattle.mysql_bind_core.specs.declared.row.Row.{Row}
 use Rattle.mysql_bind_core.specs.Scripts.{AreStatements, AreWritten, IsScript}
-use Rattle.mysql_bind_core.specs.ScriptTokens.{IsReadIn, IsSentByClient, has_newline, script_tokens, semicolon, statement_tokens, then_newline, tokens_of_statements, with_newline, word_tokens}
+use Rattle.mysql_bind_core.specs.ScriptTokens.{IsSentByClient, has_newline, script_tokens, semicolon, statement_tokens, then_newline, tokens_of_statements, with_newline, word_tokens}
 use Rattle.mysql_bind_core.proofs.LineLemmas.{newline_then}
 use Rattle.mysql_bind_core.proofs.ScriptTokenLemmas as tokens
 
@@ -30,7 +28,7 @@ use Rattle.mysql_bind_core.proofs.ScriptTokenLemmas as tokens
 newline_found : (statement line : Bool) (more : List ℕ) → found_in_client statement line (Plain newline) more ≡ None
 newline_found statement line more = no_word_found statement line newline more refl
 
-semicolon_found : (statement line : Bool) (more : List ℕ) → found_in_client statement line (Plain semicolon) more ≡ None
+pub semicolon_found : (statement line : Bool) (more : List ℕ) → found_in_client statement line (Plain semicolon) more ≡ None
 semicolon_found statement line more = no_word_found statement line semicolon more refl
 
 abbrev has_zero : List ℕ → Bool
@@ -72,7 +70,7 @@ last_sent more (DashComment gap tail) statement line h = dash_sent more gap tail
 last_sent more t statement line h =
     (found_moves statement line 0 t (up_to_line _ [] more) h, (newline_found (begins_statement statement t) (begins_line line t) more, tt))
 
-line_sent : (more : List ℕ) (ts : List Token) (statement line : Bool) → AreSentAsTheyAreFrom statement line ts →
+pub line_sent : (more : List ℕ) (ts : List Token) (statement line : Bool) → AreSentAsTheyAreFrom statement line ts →
     AreSentBefore more statement line (with_newline ts)
 line_sent more [] statement line h = (newline_found statement line more, tt)
 line_sent more (t ∷ []) statement line h = last_sent more t statement line h.0
@@ -107,7 +105,7 @@ then_sent ts us more h k =
 
 -- ---- comments
 
-opener_append : (xs ys : List Token) → HoldNoOpener xs → HoldNoOpener ys → HoldNoOpener (xs ++ ys)
+pub opener_append : (xs ys : List Token) → HoldNoOpener xs → HoldNoOpener ys → HoldNoOpener (xs ++ ys)
 opener_append [] ys h k = k
 opener_append (BlockComment tail ∷ xs) ys h k = (h.0, opener_append xs ys h.1 k)
 opener_append (QuotedString quote tail ∷ xs) ys h k = opener_append xs ys h k
@@ -136,7 +134,7 @@ last_opener (Name name) h = tt
 last_opener Mark h = tt
 last_opener (Plain b) h = tt
 
-line_opener : (ts : List Token) → HoldNoOpener ts → HoldNoOpener (with_newline ts)
+pub line_opener : (ts : List Token) → HoldNoOpener ts → HoldNoOpener (with_newline ts)
 line_opener [] h = tt
 line_opener (t ∷ []) h = last_opener t h
 line_opener (BlockComment tail ∷ u ∷ ts) h = (h.0, line_opener (u ∷ ts) h.1)
@@ -194,31 +192,27 @@ script_kept false lists p = statements_kept lists [] [] p none_kept
 
 -- ---- the texts of rows
 
-pub own_mode : (asked : Literals) → IsReadIn asked (mode_of asked)
-own_mode literals.Steady = tt
-own_mode (literals.Plain mode) = refl
-
-module _ (request : Request) (query : List ℕ) (e : request.portability ≡ portability.Portable) where
+module _ (request : Request) (query : List ℕ) (e : request.portability ≡ portability.Portable) (mode : Bool) (r : IsReadIn request.literals mode) where
   texts_in_client : (rows : List Row) (texts : List (List ℕ)) (lists : List (List Token)) → AreWritten request query rows texts →
-      AreTokensOf (mode_of request.literals) texts lists → AreInClient lists
+      AreTokensOf mode texts lists → AreInClient lists
   texts_in_client rows [] [] w a = tt
   texts_in_client rows [] (ts ∷ lists) w a = absurd a
   texts_in_client rows (text ∷ texts) [] w a = absurd a
   texts_in_client [] (text ∷ texts) (ts ∷ lists) w a = absurd w
   texts_in_client (row ∷ rows) (text ∷ texts) (ts ∷ lists) w a =
-      let p = w.0.portable_text e in
-      (subst IsPortableInClient (one_token_list (mode_of request.literals) text p.0 ts p.1 a.0) p.2, texts_in_client rows texts lists w.1 a.1)
+      let p = w.0.portable_text e mode r in
+      (subst IsPortableInClient (one_token_list mode text p.0 ts p.1 a.0) p.2, texts_in_client rows texts lists w.1 a.1)
 
   pub script_in_client : (rows : List Row) (transaction : Bool) (bytes : List ℕ) → IsScript request query rows transaction bytes →
-      OnTokens (mode_of request.literals) bytes IsSentByClient
+      OnTokens mode bytes IsSentByClient
   script_in_client rows transaction bytes s =
-      let t = tokens.tokens_of_script request query rows transaction (mode_of request.literals) bytes (own_mode request.literals) s in
+      let t = tokens.tokens_of_script request query rows transaction mode bytes r s in
       (script_tokens transaction t.0, t.2, script_kept transaction t.0 (texts_in_client rows s.texts t.0 s.written t.1))
 
   pub statements_in_client : (rows : List Row) (bytes : List ℕ) → AreStatements request query rows [] bytes →
-      OnTokens (mode_of request.literals) bytes IsSentByClient
+      OnTokens mode bytes IsSentByClient
   statements_in_client rows bytes s =
-      let t = tokens.tokens_of_statements_alone request query rows (mode_of request.literals) bytes (own_mode request.literals) s in (
+      let t = tokens.tokens_of_statements_alone request query rows mode bytes r s in (
         tokens_of_statements t.0,
         t.2,
         subst IsSentByClient (append-nil (tokens_of_statements t.0)) (statements_kept t.0 [] [] (texts_in_client rows s.texts t.0 s.written t.1) none_kept),

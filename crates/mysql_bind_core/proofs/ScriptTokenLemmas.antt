@@ -16,7 +16,7 @@ use Rattle.mysql_binding.proofs.SpliceLemmas.{Each}
 use Rattle.mysql_fragments.specs.GivenFragments.{GivenFragments, named}
 use Rattle.mysql_bind_core.specs.Bound.{IsTextFor, IsWritten, IsAssignedText, of_values, of_fragments}
 use Rattle.mysql_bind_core.specs.Entries.{IsFragmentsFor}
-use Rattle.mysql_bind_core.specs.Requests.{mode_of}
+use Rattle.mysql_bind_core.specs.Requests.{IsReadIn, mode_of}
 use Rattle.mysql_bind_core.specs.declared.assignment.Assignment.{Assignment}
 use Rattle.mysql_bind_core.specs.declared.request.Literals.{Literals}
 use Rattle.mysql_bind_core.specs.declared.request.Literals.TheVariants as literals
@@ -25,7 +25,7 @@ use Rattle.mysql_bind_core.specs.declared.request.Portability.TheVariants as por
 use Rattle.mysql_bind_core.specs.declared.request.Request.{Request}
 use Rattle.mysql_bind_core.specs.declared.row.Row.{Row}
 use Rattle.mysql_bind_core.specs.Scripts.{AreStatements, AreWritten, IsScript, closing, opening, script, statement}
-use Rattle.mysql_bind_core.specs.ScriptTokens.{IsReadIn, script_tokens, statement_tokens, tokens_of_statements, word_tokens}
+use Rattle.mysql_bind_core.specs.ScriptTokens.{script_tokens, statement_tokens, tokens_of_statements, word_tokens}
 use Rattle.mysql_bind_core.proofs.BoundLineLemmas.{HasLine, IsClosedLowered, closed_lowered, fragments_line, plain_line, steady_fragments_line, steady_line}
 use Rattle.mysql_bind_core.proofs.LineLemmas.{line_end, EndClosed, closed_before, statement_before, statement_text}
 

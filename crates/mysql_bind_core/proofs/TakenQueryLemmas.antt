@@ -98,7 +98,7 @@ module _ (request : Request) (parsed : QueryInMode) (seen : RequestedQuery) (i :
         go : (p : Portability) → request.portability ≡ p → looked_for p ts ≡ None
         go Any asked = refl
         go Portable asked =
-            let p = i.taken.portable asked in
+            let p = (i.taken.portable asked).0 in
             let portable : IsPortableInClient (lower_names ts) = subst (λ us. IsPortableInClient (lower_names us)) (one_reading (wide_reading (mode_of request.literals)) parsed.query p.0 ts p.1 is) p.2 in
             portable_has_none (lower_names ts) portable.portable
 

@@ -1,7 +1,7 @@
 -- The text that is written for a request, a query and assignments: the bound text of the whole
 -- query. Its values are exactly those that the bytes of the assignments mean. A query is read by
 -- wide names, which may have capitals.
-use Rattle.std.specs.Prelude.{◌≡◌, ℕ, true, false, List, ◌++◌, map, None, Some, Ok}
+use Rattle.std.specs.Prelude.{◌≡◌, ℕ, Bool, true, false, List, ◌++◌, map, None, Some, Ok}
 use Rattle.mysql_values.specs.declared.value.Value.{Value}
 use Rattle.mysql_named_params.specs.LoweredNames.{lower_names}
 use Rattle.mysql_named_params.specs.Reading.{OnWideTokens}
@@ -19,7 +19,7 @@ use Rattle.mysql_bind_core.specs.Assignments.{given_of, pairs_of}
 use Rattle.mysql_bind_core.specs.Contents.{contents_of, has_fragment}
 use Rattle.mysql_bind_core.specs.Entries.{IsFragmentsFor, entries_of, pair_said}
 use Rattle.mysql_bind_core.specs.QueryEnd.{end, long_end}
-use Rattle.mysql_bind_core.specs.Requests.{mode_of}
+use Rattle.mysql_bind_core.specs.Requests.{IsReadIn, mode_of}
 use Rattle.mysql_bind_core.specs.declared.assignment.Assignment.{Assignment}
 use Rattle.mysql_bind_core.specs.declared.request.Literals.{Literals}
 use Rattle.mysql_bind_core.specs.declared.request.Literals.TheVariants as literals
@@ -36,16 +36,21 @@ IsClosed request query =
 abbrev pub IsSteadyIfWanted : Request → List ℕ → Type 0
 IsSteadyIfWanted request query = request.literals ≡ literals.Steady → IsSteady query
 
--- unless all queries are taken, the query is portable on servers and in a client, with its names in
--- lower case
+-- the query is portable on servers and in a client, with its names in lower case
+abbrev pub IsPortableQuery : Bool → List ℕ → Type 0
+IsPortableQuery mode query = OnWideTokens mode query (λ ts. IsPortableInClient (lower_names ts))
+
+-- unless all queries are taken, the query is so, by itself and with the end of a statement
 abbrev pub IsPortableIfWanted : Request → List ℕ → Type 0
 IsPortableIfWanted request query = request.portability ≡ portability.Portable →
-    OnWideTokens (mode_of request.literals) query (λ ts. IsPortableInClient (lower_names ts))
+    IsPortableQuery (mode_of request.literals) query
+    × IsPortableQuery (mode_of request.literals) (query ++ end)
 
--- the same for a text, in which no names are left
+-- unless all queries are taken, a text, in which no names are left, is portable on servers and in a
+-- client, in each mode in which it is read
 abbrev pub IsTextPortableIfWanted : Request → List ℕ → Type 0
 IsTextPortableIfWanted request text = request.portability ≡ portability.Portable →
-    OnTokens (mode_of request.literals) text IsPortableInClient
+    (mode : Bool) → IsReadIn request.literals mode → OnTokens mode text IsPortableInClient
 
 -- each place of the query has a name
 abbrev pub IsNamed : Request → List ℕ → Type 0

@@ -1,12 +1,17 @@
 -- Queries that end within a token. A line with `;` after a query ends it, unless the query's last
 -- token is open, as in `SELECT 'a`. Then the `;` and the next statement are part of that token.
-use Rattle.std.specs.Prelude.{ℕ, ◌+◌, nat_lt, List, [], ◌∷◌, length, if◌then◌else◌, Option, Some, None}
+use Rattle.std.specs.Prelude.{◌≡◌, ℕ, ◌+◌, nat_lt, List, [], ◌∷◌, ◌++◌, length, codes, if◌then◌else◌, Option, Some, None}
 use Rattle.mysql_named_params.specs.Tokens.{Token, bytes_of}
 use Rattle.mysql_bind_core.specs.ValueTypes.{newline}
 
 -- the end of a statement: a newline and `;`
 abbrev pub end : List ℕ
 end = newline ∷ 59 ∷ []
+
+-- The text ends with `--`. Only what ends with it may have a construct together with the end of a
+-- statement that it doesn't have by itself: `SELECT 1.e--`.
+abbrev pub EndsWithDashes : List ℕ → Type 0
+EndsWithDashes text = (front : List ℕ) × (text ≡ front ++ codes "--")
 
 -- the index at which a last token begins, if it has several bytes
 abbrev pub last_at : ℕ → ℕ → Option ℕ

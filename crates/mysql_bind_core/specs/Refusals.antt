@@ -1,5 +1,5 @@
 -- Which refusal comes: the first that holds, in the order of `Failure`.
-use Rattle.std.specs.Prelude.{◌≡◌, ◌++◌, ◌≢◌, ℕ, true, false, List, map, Some, None, Result, Ok, Err, ⊤, Option}
+use Rattle.std.specs.Prelude.{◌≡◌, ◌++◌, ◌≢◌, ◌⊎◌, ℕ, Bool, true, false, List, map, Some, None, Result, Ok, Err, ⊤, Option}
 use Rattle.mysql_values.specs.declared.value.Value.{Value}
 use Rattle.mysql_named_params.specs.LoweredNames.{have_capitals, lower_names}
 use Rattle.mysql_named_params.specs.NamesAndMarks.{marks, names}
@@ -19,10 +19,10 @@ use Rattle.mysql_fragments.specs.GivenFragments.{FragmentMap, GivenFragments, na
 use Rattle.mysql_fragments.specs.declared.fragment.Fragment.{Fragment}
 use Rattle.mysql_fragments.specs.WideSteadyFragments as steady
 use Rattle.mysql_bind_core.specs.Assignments.{given_of, pairs_of}
-use Rattle.mysql_bind_core.specs.Bound.{IsAssignedText, IsClosed, IsSteadyIfWanted, IsPortableIfWanted, IsTaken}
+use Rattle.mysql_bind_core.specs.Bound.{IsAssignedText, IsClosed, IsSteadyIfWanted, IsPortableIfWanted, IsPortableQuery, IsTaken}
 use Rattle.mysql_bind_core.specs.Contents.{contents_of, has_fragment}
 use Rattle.mysql_bind_core.specs.Entries.{Entries, entries_of, pair_said}
-use Rattle.mysql_bind_core.specs.QueryEnd.{end, long_end}
+use Rattle.mysql_bind_core.specs.QueryEnd.{EndsWithDashes, end, long_end}
 use Rattle.mysql_bind_core.specs.Requests.{mode_of}
 use Rattle.mysql_bind_core.specs.declared.assignment.Assignment.{Assignment}
 use Rattle.mysql_bind_core.specs.declared.assignment.PairsError.{PairsError}
@@ -35,6 +35,17 @@ use Rattle.mysql_bind_core.specs.declared.request.Portability.{Portability}
 use Rattle.mysql_bind_core.specs.declared.request.Portability.TheVariants as portability
 use Rattle.mysql_bind_core.specs.declared.request.Request.{Request}
 
+-- the first construct of a query with its names in lower case
+abbrev pub IsFirstFound : Bool → List ℕ → Unportable → Type 0
+IsFirstFound mode query found =
+    OnWideTokens mode query (λ ts. Some found ≡ first_unportable_in_client (lower_names ts))
+
+-- the first construct of a query, or if it has none, of the query with the end of a statement
+abbrev pub IsFoundInQuery : Bool → List ℕ → Unportable → Type 0
+IsFoundInQuery mode query found =
+    IsFirstFound mode query found
+    ⊎ (IsPortableQuery mode query × IsFirstFound mode (query ++ end) found)
+
 -- why the request doesn't take the query, or out of memory
 abbrev pub IsQueryRefusal : Request → List ℕ → Failure → Type 0
 IsQueryRefusal request query (failure.Open at) =
@@ -45,8 +56,7 @@ IsQueryRefusal request query (failure.Unsteady at) =
 IsQueryRefusal request query (failure.Unportable found) =
     IsClosed request query × IsSteadyIfWanted request query
     × (request.portability ≡ portability.Portable)
-    × OnWideTokens (mode_of request.literals) query (λ ts.
-    Some found ≡ first_unportable_in_client (lower_names ts))
+    × IsFoundInQuery (mode_of request.literals) query found
 IsQueryRefusal request query failure.Marks =
     IsClosed request query × IsSteadyIfWanted request query × IsPortableIfWanted request query
     × OnWideTokens (mode_of request.literals) query (λ ts. marks ts ≢ 0)
@@ -54,12 +64,13 @@ IsQueryRefusal request query (failure.Memory error) = ⊤
 IsQueryRefusal request query why = ⊥
 
 -- the query is copied to check whether it is portable: it has to be portable, it isn't refused
--- before, and a name has a capital
+-- before, and a name has a capital or the query ends with `--`
 abbrev pub IsCopied : Request → List ℕ → Type 0
 IsCopied request query =
     IsClosed request query × IsSteadyIfWanted request query
     × (request.portability ≡ portability.Portable)
-    × OnWideTokens (mode_of request.literals) query (λ ts. have_capitals (names ts) ≡ true)
+    × (OnWideTokens (mode_of request.literals) query (λ ts. have_capitals (names ts) ≡ true)
+    ⊎ EndsWithDashes query)
 
 -- the failure for an error of pairs
 abbrev pub pairs_failure : PairsError → Failure

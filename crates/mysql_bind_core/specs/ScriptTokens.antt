@@ -1,21 +1,12 @@
 -- The tokens of a script: those of its texts, and a line with `;` after each. No token of a text
 -- reaches beyond the newline after it.
-use Rattle.std.specs.Prelude.{◌≡◌, ◌==◌, ◌+◌, ◌++◌, ℕ, Bool, List, [], ◌∷◌, length, map, codes, if◌then◌else◌, ⊤}
+use Rattle.std.specs.Prelude.{◌==◌, ◌+◌, ◌++◌, ℕ, Bool, List, [], ◌∷◌, length, map, codes, if◌then◌else◌}
 use Rattle.std.specs.List.{list_any}
 use Rattle.mysql_named_params.specs.Bytes.{newline}
 use Rattle.mysql_named_params.specs.Tokens.{Token, HashComment, DashComment, Plain}
 use Rattle.mysql_portable.specs.Client.{HoldNoOpener}
 use Rattle.mysql_portable.specs.FirstUnportableInClient.{AreSentAsTheyAre}
-use Rattle.mysql_portable.specs.Portable.{AreReadAlike}
 use Rattle.mysql_portable.specs.Statements.{statements}
-use Rattle.mysql_bind_core.specs.declared.request.Literals.{Literals}
-use Rattle.mysql_bind_core.specs.declared.request.Literals.TheVariants as literals
-
--- a mode in which texts with such literals are read: either mode for steady literals, and for plain
--- literals their own
-abbrev pub IsReadIn : Literals → Bool → Type 0
-IsReadIn literals.Steady mode = ⊤
-IsReadIn (literals.Plain own) mode = own ≡ mode
 
 -- b';'
 abbrev pub semicolon : ℕ
@@ -50,11 +41,6 @@ statement_tokens ts = with_newline ts ++ (Plain semicolon ∷ Plain newline ∷ 
 abbrev pub tokens_of_statements : List (List Token) → List Token
 tokens_of_statements [] = []
 tokens_of_statements (ts ∷ lists) = statement_tokens ts ++ tokens_of_statements lists
-
--- each of these texts, with the newline after it, passes the tests of a portable query
-abbrev pub AreLinesReadAlike : List (List Token) → Type 0
-AreLinesReadAlike [] = ⊤
-AreLinesReadAlike (ts ∷ lists) = AreReadAlike (with_newline ts) × AreLinesReadAlike lists
 
 -- None of the constructs of a client that keeps comments is among these tokens. No block comment
 -- holds `/*!`, `/*+` or `/*/`, and no token makes the client send a different text.

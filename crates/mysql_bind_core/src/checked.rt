@@ -1,26 +1,29 @@
 //! Why a request doesn't take a query, whatever is assigned to its names. The first reason is that
 //! the query ends within a token: the text after the query would be part of that token.
-ghost use Rattle.std.specs.Prelude.{◌≡◌, ◌≢◌, ◌++◌, IfErr, IsErrOf, OnOk, alloc_error, ℕ, Some, None, [], length, true, false, IsTrue};
+ghost use Rattle.std.specs.Prelude.{◌≡◌, ◌≢◌, ◌++◌, ◌⊎◌, IfErr, IfOk, IfSome, IsErrOf, OnErr, OnOk, alloc_error, ℕ, Some, None, [], length, true, false, IsTrue};
 ghost use Rattle.mysql_sql_text.specs.StringUnits.{is_escape};
 ghost use Rattle.mysql_named_params.specs.Bytes.{is_string_quote};
+ghost use Rattle.mysql_named_params.specs.LoweredNames.{have_capitals};
+ghost use Rattle.mysql_named_params.specs.NamesAndMarks.{names};
 ghost use Rattle.mysql_named_params.specs.Tokens.{OnTokens, IsStringTail};
-ghost use Rattle.mysql_named_params.specs.Reading.{wide_reading};
-ghost use Rattle.mysql_bind_core.specs.Bound.{IsClosed, IsNamed, IsPortableIfWanted, IsSteadyIfWanted, IsTaken};
-ghost use Rattle.mysql_bind_core.specs.Refusals.{IsCopied, IsQueryRefusal};
+ghost use Rattle.mysql_named_params.specs.Reading.{OnWideTokens, wide_reading};
+ghost use Rattle.mysql_bind_core.specs.Bound.{IsClosed, IsNamed, IsPortableIfWanted, IsPortableQuery, IsSteadyIfWanted, IsTaken};
+ghost use Rattle.mysql_bind_core.specs.Refusals.{IsCopied, IsFoundInQuery, IsQueryRefusal};
 ghost use Rattle.mysql_bind_core.specs.Requests.{mode_of};
-ghost use Rattle.mysql_bind_core.specs.QueryEnd.{end, long_end, long_end_from};
+ghost use Rattle.mysql_bind_core.specs.QueryEnd.{EndsWithDashes, end, long_end, long_end_from};
 
 use crate::failure::Failure;
 use crate::request::{Literals, Portability, Request};
 use mysql_binding::{SurveyedQuery, place_after};
 use mysql_named_params::tokens::first_token;
 use mysql_portable::clear::is_clear_in_client;
+use mysql_portable::portable::Unportable;
 use mysql_portable::steady::first_unsteady;
 use mysql_portable::wide::first_unportable_in_client_wide;
-use std::alloc::Global;
+use std::alloc::{AllocError, Global};
 
 // Whether the request takes a query that is surveyed in its mode, by wide names. It asks for memory
-// only for a copy of a query with a capital in a name.
+// only for a copy of a query with a capital in a name, or of one that ends with `--`.
 pub(crate) fn check_surveyed(
     alloc: Global,
     query: &SurveyedQuery<'_>,
@@ -54,7 +57,7 @@ fn check_end(query: &SurveyedQuery<'_>, request: Request) -> Result<(), Failure>
 }
 
 // Whether the query is steady and portable, if it has to be. Most queries that have to be both pass
-// in one quick walk.
+// in one quick walk, which doesn't look at the end of a statement after the query.
 fn check_reading(alloc: Global, query: &[u8], request: Request) -> Result<(), Failure>
     requires { IsClosed request query.now }
     ensures steady { OnOk result (IsSteadyIfWanted request query.now) }
@@ -66,7 +69,7 @@ fn check_reading(alloc: Global, query: &[u8], request: Request) -> Result<(), Fa
     match request.portability {
         Portability::Any => check_steady(query, request),
         Portability::Portable => {
-            if is_clear_in_client(query) {
+            if !query.ends_with(b"--") && is_clear_in_client(query) {
                 return Ok(());
             }
             check_steady(query, request)?;
@@ -105,12 +108,40 @@ fn check_portable(alloc: Global, query: &[u8], request: Request) -> Result<(), F
         Portability::Any => Ok(()),
         Portability::Portable => {
             let mode = request.literals.no_backslash_escape();
-            match first_unportable_in_client_wide(alloc, query, mode)? {
+            match first_found(alloc, query, mode)? {
                 None => Ok(()),
                 Some(found) => Err(Failure::Unportable(found)),
             }
         }
     }
+}
+
+// The first construct of the query, or if it has none, of the query with the end of a statement.
+// Only a query that ends with `--` may have one only with the end, so only such a query is copied.
+fn first_found(
+    alloc: Global,
+    query: &[u8],
+    no_backslash_escape: bool,
+) -> Result<Option<Unportable>, AllocError>
+    requires { OnTokens no_backslash_escape (query.now ++ end) (λ us. None ≡ long_end us) }
+    ensures found { IfOk result (λ found. IfSome found
+        (IsFoundInQuery no_backslash_escape query.now)) }
+    ensures none { IfOk result (λ found. found ≡ None →
+        IsPortableQuery no_backslash_escape query.now
+        × IsPortableQuery no_backslash_escape (query.now ++ end)) }
+    ensures memory { OnErr result
+        (OnWideTokens no_backslash_escape query.now (λ ts. have_capitals (names ts) ≡ true)
+        ⊎ EndsWithDashes query.now) }
+{
+    if let Some(found) = first_unportable_in_client_wide(alloc, query, no_backslash_escape)? {
+        return Ok(Some(found));
+    }
+    if !query.ends_with(b"--") {
+        return Ok(None);
+    }
+    let mut ended = Vec::from_slice(alloc, query)?;
+    ended.extend_from_slice(b"\n;")?;
+    first_unportable_in_client_wide(alloc, ended.as_slice(), no_backslash_escape)
 }
 
 // Whether each place of the query has a name.

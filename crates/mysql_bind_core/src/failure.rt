@@ -23,8 +23,9 @@ pub enum Failure {
         /// The index of the first one.
         at: usize,
     },
-    /// The query isn't portable on servers or in a client. The first construct that makes it so is
-    /// reported.
+    /// The query isn't portable on servers or in a client, by itself or with the end of a statement
+    /// after it, a newline and `;`. The first construct that makes it so is reported, at its index
+    /// in the query.
     Unportable(Unportable),
     /// The query has a mark, which has no name.
     Marks,

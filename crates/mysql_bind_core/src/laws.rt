@@ -2,16 +2,16 @@
 ghost use Rattle.std.specs.Prelude.{◌≡◌, ◌<◌, ◌^◌, ℕ, Bool, false, List, All, length};
 ghost use Rattle.mysql_named_params.specs.LoweredNames.{have_capitals, lower_names};
 ghost use Rattle.mysql_named_params.specs.Places.{names};
-ghost use Rattle.mysql_named_params.specs.Reading.{OnWideTokens};
-ghost use Rattle.mysql_named_params.specs.Tokens.{Token, text_of};
+ghost use Rattle.mysql_named_params.specs.Reading.{IsTokensIn, OnWideTokens, wide_reading};
+ghost use Rattle.mysql_named_params.specs.Tokens.{IsTokens, Token, text_of};
 ghost use Rattle.mysql_portable.specs.Quiet.{DecidesWithin, IsHonest};
 ghost use Rattle.mysql_portable.specs.Client.{Client, IsReadBy};
 ghost use Rattle.mysql_portable.specs.Statements.{statements};
 ghost use Rattle.mysql_bind_core.specs.Bound.{IsAssignedText, IsTextPortableIfWanted, IsTaken, IsWritten};
 ghost use Rattle.mysql_bind_core.specs.Cells.{AreAssigned};
 ghost use Rattle.mysql_bind_core.specs.Contents.{has_fragment};
-ghost use Rattle.mysql_bind_core.specs.Requests.{mode_of};
-ghost use Rattle.mysql_bind_core.specs.Statements.{AreReplaced};
+ghost use Rattle.mysql_bind_core.specs.Requests.{IsReadIn, mode_of};
+ghost use Rattle.mysql_bind_core.specs.Statements.{put_in_places, replaced, replaced_statements};
 ghost use Rattle.mysql_bind_core.specs.declared.assignment.Assignment.{Assignment};
 ghost use Rattle.mysql_bind_core.specs.declared.cell.Cell.{Cell};
 ghost use Rattle.mysql_bind_core.specs.declared.request.Portability.TheVariants as portability;
@@ -38,22 +38,31 @@ use std::alloc::Global;
 ///
 /// Suppose that the client also decides about a quiet comment only by the comment. Then it reads
 /// the text as the tokens of the query with its names in lower case, except in the places. In each
-/// place the tokens of the text replace those of the name, statement by statement (`tokens`).
+/// place it reads exactly the tokens of the literal of the value that is assigned to the name, or
+/// those of the fragment (`tokens`). The statements of the text are those of the query, with the
+/// same tokens in their places (`statements`). Example: for `SELECT :a` with 1 it reads the tokens
+/// of `1` there, and never reads `SELECT password FROM users`.
+///
+/// With steady literals this holds in either mode, and with literals of a mode in that mode.
 pub fn written_in_clients()
-    ensures count { (client : Client) (request : Request) (query text : List ℕ)
+    ensures count { (client : Client) (request : Request) (mode : Bool) (query text : List ℕ)
         (assignments : List Assignment) (vs : List Token) → IsHonest client.reader →
-        request.portability ≡ portability.Portable → IsWritten request query assignments text →
-        IsReadBy client (mode_of request.literals) text vs →
-        OnWideTokens (mode_of request.literals) query (λ ts.
-        length (statements vs) ≡ length (statements ts)) }
-    ensures tokens { (client : Client) (request : Request) (query text : List ℕ)
+        request.portability ≡ portability.Portable → IsReadIn request.literals mode →
+        IsWritten request query assignments text → IsReadBy client mode text vs →
+        OnWideTokens mode query (λ ts. length (statements vs) ≡ length (statements ts)) }
+    ensures tokens { (client : Client) (request : Request) (mode : Bool) (query text : List ℕ)
         (assignments : List Assignment) (us : List Token) → IsHonest client.reader →
         DecidesWithin client.reader → request.portability ≡ portability.Portable →
-        IsWritten request query assignments text →
-        OnWideTokens (mode_of request.literals) query (λ ts.
-        IsReadBy client (mode_of request.literals) (text_of (lower_names ts)) us →
-        (vs : List Token) × IsReadBy client (mode_of request.literals) text vs
-        × AreReplaced (mode_of request.literals) ts text us vs) }
+        IsReadIn request.literals mode → (w : IsWritten request query assignments text) →
+        OnWideTokens mode query (λ ts. IsReadBy client mode (text_of (lower_names ts)) us →
+        IsReadBy client mode text
+        (replaced us (put_in_places request query assignments text w.assigned))) }
+    ensures statements { (request : Request) (query text : List ℕ)
+        (assignments : List Assignment) (us : List Token) →
+        (w : IsWritten request query assignments text) →
+        statements (replaced us (put_in_places request query assignments text w.assigned))
+        ≡ replaced_statements (statements us)
+        (put_in_places request query assignments text w.assigned) }
 {
     bound_texts_in_clients();
     fragments_on_servers();
@@ -64,10 +73,13 @@ pub fn written_in_clients()
     steady_fragments_in_clients();
 }
 
-/// If no name has a capital, writing the names in lower case changes nothing. Such a query has the
-/// tokens that it has by the names of the grammar.
+/// If no name has a capital, writing the names in lower case changes nothing (`same`). Such a query
+/// has the tokens that it has by the names of the grammar (`grammar`).
 pub fn lower_names_stay()
-    ensures { (ts : List Token) → have_capitals (names ts) ≡ false → lower_names ts ≡ ts }
+    ensures same { (ts : List Token) → have_capitals (names ts) ≡ false → lower_names ts ≡ ts }
+    ensures grammar { (mode : Bool) (query : List ℕ) (ts : List Token) →
+        IsTokensIn (wide_reading mode) query ts → have_capitals (names ts) ≡ false →
+        IsTokens mode query ts }
 {}
 
 /// For all names and cells there are assignments that say the same as the cells under the names.

@@ -6,7 +6,9 @@ ghost use Rattle.std.specs.Io.KnownBytes.{Appends};
 ghost use Rattle.mysql_io.specs.ReadersAndWriters.{AppendsPrefix};
 ghost use Rattle.mysql_params_core.specs.GivenBorrowed.{by_borrowed, given_by_borrowed};
 ghost use Rattle.mysql_query_core.specs.WordErrors.{seen_pair};
-ghost use Rattle.mysql_bind_core.specs.Bound.{IsTaken, IsAssignedText, IsTextPortableIfWanted, IsValuesText, IsWritten};
+ghost use Rattle.mysql_named_params.specs.Tokens.{OnTokens};
+ghost use Rattle.mysql_portable.specs.FirstUnportableInClient.{IsPortableInClient};
+ghost use Rattle.mysql_bind_core.specs.Bound.{IsTaken, IsAssignedText, IsValuesText, IsWritten};
 ghost use Rattle.mysql_bind_core.specs.Refusals.{IsCopied, IsQueryRefusal, IsFoundInText, IsMadeRefusal, IsRefusal, IsValuesRefusal};
 ghost use Rattle.mysql_bind_core.specs.Requests.{mode_of};
 ghost use Rattle.mysql_bind_core.specs.Assignments.{given_of, pairs_of};
@@ -56,7 +58,8 @@ impl<'q> Model for TakenQuery<'q> {
 impl<'q> TakenQuery<'q> {
     /// The query, if the request takes it. Otherwise the error is `Open`, `Unsteady`, `Unportable`
     /// or `Marks`, like that of [`check_query`]. It is `Memory` only if the request takes the
-    /// query, or, if a name has a capital, in place of `Unportable` and `Marks`.
+    /// query, or, if a name has a capital or the query ends with `--`, in place of `Unportable` and
+    /// `Marks`.
     pub fn new(alloc: Global, query: &'q [u8], request: Request) -> Result<TakenQuery<'q>, Failure>
         ensures query { IfOk result (λ t. t ≡ record { query = query.now; request = request }) }
         ensures taken { IfOk result (λ t. IsTaken request query.now) }
@@ -191,9 +194,12 @@ impl<'q> TakenQuery<'q> {
 }
 
 /// Whether the request takes the query, without any values. If it doesn't, the error is `Open`,
-/// `Unsteady`, `Unportable` or `Marks`. For a query with a capital in a name it may ask for memory,
-/// for a copy of the query. If that is refused, the error is `Memory`. It never comes in place of
-/// `Open` or `Unsteady`.
+/// `Unsteady`, `Unportable` or `Marks`. For a query with a capital in a name, or one that ends with
+/// `--`, it may ask for memory, for a copy of the query. If that is refused, the error is `Memory`.
+/// It never comes in place of `Open` or `Unsteady`.
+///
+/// The end of a statement after the query counts for `Unportable`: `SELECT 1.e--` is refused, since
+/// servers read `1.e--` before a newline in different ways.
 pub fn check_query(alloc: Global, query: &[u8], request: Request) -> Result<(), Failure>
     ensures taken { OnOk result (IsTaken request query.now) }
     ensures refused { IfErr result (IsQueryRefusal request query.now) }
@@ -225,7 +231,8 @@ fn written<W: Write>(output: &mut W, text: &[u8]) -> Result<(), Failure>
 
 // The first construct of a bound text, if it has to be portable in a client.
 pub(crate) fn found_in_text(text: &[u8], request: Request) -> Option<Unportable>
-    ensures none { result ≡ None → IsTextPortableIfWanted request text.now }
+    ensures none { result ≡ None → request.portability ≡ Portability.Portable →
+        OnTokens (mode_of request.literals) text.now IsPortableInClient }
     ensures found { IfSome result (IsFoundInText request text.now) }
 {
     match request.portability {

@@ -76,6 +76,9 @@ const WRITTEN: &[(&str, Row)] = cases! {
     "write_bound of an unsteady query" => b"'\\\\':a", NUMBER, STEADY, Err("Unsteady { at: 1 }");
     "write_bound of a query that is not portable" =>
         b"[ :a", NUMBER, STEADY, Err("Unportable(Unportable { construct: Bracket, at: 0 })");
+    "write_bound of a query that is not portable before a newline" =>
+        b"SELECT :a, 1.e--", NUMBER, STEADY,
+        Err("Unportable(Unportable { construct: DashesAfterExponent, at: 12 })");
     "write_bound of names with capitals in a query that is not portable" =>
         b"/*+ :Id */", &[(b"Id", Int, b"5")], STEADY,
         Err("Unportable(Unportable { construct: Hint, at: 0 })");

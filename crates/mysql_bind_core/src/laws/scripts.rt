@@ -6,13 +6,13 @@ ghost use Rattle.mysql_portable.specs.Statements.{statements};
 ghost use Rattle.mysql_binding.specs.Replaced.{AreTokensOf};
 ghost use Rattle.mysql_bind_core.specs.Cells.{AreAssigned, TableQuery};
 ghost use Rattle.mysql_bind_core.specs.Groups.{AreGroupsAppended, records_of};
-ghost use Rattle.mysql_bind_core.specs.Requests.{mode_of};
+ghost use Rattle.mysql_bind_core.specs.Requests.{IsReadIn};
 ghost use Rattle.mysql_bind_core.specs.RowTexts.{IsRowText};
 ghost use Rattle.mysql_bind_core.specs.declared.cell.Cell as cell;
 ghost use Rattle.mysql_bind_core.specs.declared.request.Portability.TheVariants as portability;
 ghost use Rattle.mysql_bind_core.specs.declared.request.Request as declared;
 ghost use Rattle.mysql_bind_core.specs.Scripts.{AreStatements, IsScript, closing, opening, statement};
-ghost use Rattle.mysql_bind_core.specs.ScriptTokens.{AreLinesReadAlike, IsReadIn, IsSentByClient, count_of_statements, script_tokens, tokens_of_statements};
+ghost use Rattle.mysql_bind_core.specs.ScriptTokens.{IsSentByClient, count_of_statements, script_tokens, tokens_of_statements};
 ghost use Rattle.mysql_bind_core.specs.Tables.{AreAppended, AreRowsOf, BeginsWithRecords, Fields};
 ghost use Rattle.mysql_bind_core.specs.TakenQuery.{RequestedQuery};
 ghost use Rattle.mysql_bind_core.specs.declared.group_form.GroupForm as group;
@@ -28,8 +28,10 @@ ghost use Rattle.mysql_records.specs.Records.{IsTable};
 /// With steady literals this holds in either mode, and with literals of a mode in that mode.
 ///
 /// Clients cut a script at each `;` that is a token. The parts are the statements of the texts,
-/// those of a transaction, and a single newline after the last `;` (`count`). If every server reads
-/// each text with the newline after it alike, every server reads the script alike (`alike`).
+/// those of a transaction, and a single newline after the last `;` (`count`).
+///
+/// Unless all queries are taken, each token of a script passes the tests of a portable query, so
+/// every server reads the script alike (`alike`, `statements_alike`).
 pub fn tokens_of_scripts()
     ensures script { (request : declared.Request) (query : List ℕ) (rows : List row.Row)
         (transaction mode : Bool) (bytes : List ℕ) → IsReadIn request.literals mode →
@@ -42,22 +44,30 @@ pub fn tokens_of_scripts()
     ensures count { (transaction : Bool) (lists : List (List Token)) →
         length (statements (script_tokens transaction lists)) ≡
         (if transaction then 2 else 0) + (count_of_statements lists + 1) }
-    ensures alike { (transaction : Bool) (lists : List (List Token)) → AreLinesReadAlike lists →
-        AreReadAlike (script_tokens transaction lists) }
+    ensures alike { (request : declared.Request) (query : List ℕ) (rows : List row.Row)
+        (transaction mode : Bool) (bytes : List ℕ) → request.portability ≡ portability.Portable →
+        IsReadIn request.literals mode → IsScript request query rows transaction bytes →
+        OnTokens mode bytes AreReadAlike }
+    ensures statements_alike { (request : declared.Request) (query : List ℕ)
+        (rows : List row.Row) (mode : Bool) (bytes : List ℕ) →
+        request.portability ≡ portability.Portable → IsReadIn request.literals mode →
+        AreStatements request query rows [] bytes → OnTokens mode bytes AreReadAlike }
 {}
 
-/// Unless all queries are taken, a client that keeps comments sends a script as it is: the script
-/// has none of the client's own constructs. If every server reads each text with the newline after
-/// it alike, the client reads the script as its server does (`alike` of [`tokens_of_scripts`]).
+/// Unless all queries are taken, a script has none of the client's own constructs. Every server
+/// reads it alike, so a client that keeps comments reads it as its server does (`alike` of
+/// [`tokens_of_scripts`]).
+///
+/// With steady literals this holds in either mode, and with literals of a mode in that mode.
 pub fn scripts_in_clients()
     ensures script { (request : declared.Request) (query : List ℕ) (rows : List row.Row)
-        (transaction : Bool) (bytes : List ℕ) → request.portability ≡ portability.Portable →
-        IsScript request query rows transaction bytes →
-        OnTokens (mode_of request.literals) bytes IsSentByClient }
+        (transaction mode : Bool) (bytes : List ℕ) → request.portability ≡ portability.Portable →
+        IsReadIn request.literals mode → IsScript request query rows transaction bytes →
+        OnTokens mode bytes IsSentByClient }
     ensures statements { (request : declared.Request) (query : List ℕ) (rows : List row.Row)
-        (bytes : List ℕ) → request.portability ≡ portability.Portable →
-        AreStatements request query rows [] bytes →
-        OnTokens (mode_of request.literals) bytes IsSentByClient }
+        (mode : Bool) (bytes : List ℕ) → request.portability ≡ portability.Portable →
+        IsReadIn request.literals mode → AreStatements request query rows [] bytes →
+        OnTokens mode bytes IsSentByClient }
 {}
 
 /// Record by record, [`append_record`](crate::append_record) appends the statements of rows that
@@ -96,7 +106,8 @@ pub fn tables_make_scripts()
 ///
 /// With the opening and the closing of a script around them, the statements make a script. Its
 /// tokens are those of their texts, like those of rows in [`tokens_of_scripts`] (`script`). Unless
-/// all queries are taken, a client that keeps comments sends the script as it is (`sent`).
+/// all queries are taken, every server reads the script alike (`alike`), and it has none of the
+/// client's own constructs (`sent`).
 pub fn groups_make_scripts()
     ensures records { (query : RequestedQuery) (form : group.GroupForm) (text : List ℕ)
         (groups : List (List Fields)) (rest before after : List ℕ) →
@@ -112,10 +123,16 @@ pub fn groups_make_scripts()
         (s : AreGroupsAppended query form text groups rest (opening transaction) after) →
         bytes ≡ after ++ closing transaction → (lists : List (List Token))
         × AreTokensOf mode s.texts lists × IsTokens mode bytes (script_tokens transaction lists) }
-    ensures sent { (query : RequestedQuery) (form : group.GroupForm) (text : List ℕ)
-        (groups : List (List Fields)) (rest : List ℕ) (transaction : Bool)
+    ensures alike { (query : RequestedQuery) (form : group.GroupForm) (text : List ℕ)
+        (groups : List (List Fields)) (rest : List ℕ) (transaction mode : Bool)
         (after bytes : List ℕ) → query.request.portability ≡ portability.Portable →
+        IsReadIn query.request.literals mode →
         AreGroupsAppended query form text groups rest (opening transaction) after →
-        bytes ≡ after ++ closing transaction →
-        OnTokens (mode_of query.request.literals) bytes IsSentByClient }
+        bytes ≡ after ++ closing transaction → OnTokens mode bytes AreReadAlike }
+    ensures sent { (query : RequestedQuery) (form : group.GroupForm) (text : List ℕ)
+        (groups : List (List Fields)) (rest : List ℕ) (transaction mode : Bool)
+        (after bytes : List ℕ) → query.request.portability ≡ portability.Portable →
+        IsReadIn query.request.literals mode →
+        AreGroupsAppended query form text groups rest (opening transaction) after →
+        bytes ≡ after ++ closing transaction → OnTokens mode bytes IsSentByClient }
 {}

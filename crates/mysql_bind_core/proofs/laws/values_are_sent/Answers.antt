@@ -18,6 +18,7 @@ use Rattle.mysql_bind_core.specs.declared.request.Literals.{Literals}
 use Rattle.mysql_bind_core.specs.declared.request.Literals.TheVariants as literals
 use Rattle.mysql_bind_core.specs.declared.request.Portability.TheVariants as portability
 use Rattle.mysql_bind_core.specs.declared.request.Request.{Request}
+use Rattle.mysql_bind_core.proofs.EachModeLemmas.{portable_in_each}
 use Rattle.mysql_bind_core.proofs.LoweredTextLemmas.{low_alone, low_joined, low_replaced, low_tokens, plain_sent}
 use Rattle.mysql_bind_core.proofs.laws.values_are_sent.Goals as goal
 
@@ -48,7 +49,8 @@ returns c = sent
         mode_of request.literals ≡ false → IsTaken request query → IsAssignedText request query assignments text → IsTextPortableIfWanted request text
     sent request query text assignments none escaped taken (of_fragments some x) e = absurd (true≢false (sym some ∙ none))
     sent request query text assignments none escaped taken (of_values _ x) e =
-        let p = taken.portable e in
+        let p = (taken.portable e).0 in
         let o = x.bound in
         let portable = subst (λ us. IsPortableInClient (lower_names us)) (one_reading (wide_reading (mode_of request.literals)) query p.0 o.0 p.1 o.1) p.2 in
-        values request.literals query text o.0 x.given escaped o.1 (subst (λ k. IsTextFor request.literals k o.0 x.given text) e o.2) portable
+        portable_in_each request query assignments text (of_values none x)
+        (λ e. values request.literals query text o.0 x.given escaped o.1 (subst (λ k. IsTextFor request.literals k o.0 x.given text) e o.2) portable) e

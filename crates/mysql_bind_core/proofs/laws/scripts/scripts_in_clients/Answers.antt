@@ -3,6 +3,6 @@ use Rattle.mysql_bind_core.proofs.laws.scripts.scripts_in_clients.Goals as goal
 
 pub returns : goal.returns
 returns c = record {
-  script = λ request query rows transaction bytes e s. script_in_client request query e rows transaction bytes s;
-  statements = λ request query rows bytes e s. statements_in_client request query e rows bytes s;
+  script = λ request query rows transaction mode bytes e r s. script_in_client request query e mode r rows transaction bytes s;
+  statements = λ request query rows mode bytes e r s. statements_in_client request query e mode r rows bytes s;
 }
