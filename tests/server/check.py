@@ -28,6 +28,7 @@ import program
 import rewritten
 import rows
 import search
+import sends_search
 import sent
 import shell_tool
 import signs
@@ -56,6 +57,7 @@ def main(path: str, mysql_query: str, mysql_bind: str, folder: str) -> int:
     floats.run(tests, path)
     client.run(tests, path, folder)
     sent.run(tests, folder, is_mysql)
+    sends_search.run(tests, folder, is_mysql)
     pipes.run(tests, folder, is_mysql)
     shell_tool.run(tests, path, os.path.abspath(mysql_bind), folder, is_mysql)
     exported.run(tests, path, os.path.abspath(mysql_bind), folder, is_mysql)

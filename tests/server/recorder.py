@@ -4,7 +4,7 @@ import os
 import socket
 import struct
 import subprocess
-from typing import NamedTuple
+from typing import NamedTuple, Optional
 
 _COM_QUIT, _COM_QUERY = 1, 3
 _AUTOCOMMIT, _NO_BACKSLASH_ESCAPES = 2, 512
@@ -47,13 +47,14 @@ class Recorder:
         if os.path.exists(self._input):
             os.unlink(self._input)
 
-    def sent(self, text: bytes, options: tuple, no_backslash_escape: bool) -> list:
-        """Return the statements that the client sends of a text on its standard input."""
+    def sent(self, text: bytes, options: tuple, no_backslash_escape: bool, environment: Optional[dict] = None) -> list:
+        """Return the statements that the client sends of a text on its standard input, in its environment."""
         with open(self._input, "wb") as file:
             file.write(text)
         words = [self._client.command, "--no-defaults", "--user=root", f"--socket={self._path}", self._client.no_tls]
         with open(self._input, "rb") as file:
-            ran = subprocess.Popen([*words, *options], stdin=file, stdout=subprocess.DEVNULL, stderr=subprocess.DEVNULL)
+            ran = subprocess.Popen([*words, *options], stdin=file, stdout=subprocess.DEVNULL, stderr=subprocess.DEVNULL,
+                                   cwd=os.path.dirname(self._path), env=environment)  # fmt: skip
         try:
             connection, _ = self._listener.accept()
             with connection:

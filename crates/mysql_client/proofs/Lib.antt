@@ -1,0 +1,10 @@
+pub mod StepLemmas
+pub mod EndLemmas
+pub mod QuotedLemmas
+pub mod TextLemmas
+pub mod CommentLemmas
+pub mod PlainStepLemmas
+pub mod PlainFactLemmas
+pub mod TokenLemmas
+pub mod SentLemmas
+pub mod SharpLemmas

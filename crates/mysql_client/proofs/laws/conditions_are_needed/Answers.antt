@@ -1,0 +1,11 @@
+use Rattle.mysql_client.proofs.SharpLemmas as lemmas
+use Rattle.mysql_client.proofs.laws.conditions_are_needed.Goals as goal
+
+pub returns : goal.returns
+returns c = record {
+  mark_in_front = lemmas.mark_in_front;
+  backslash_at_end = lemmas.backslash_at_end;
+  hint = lemmas.hint;
+  nothing_after_end = lemmas.nothing_after_end;
+  joining_after_end = lemmas.joining_after_end;
+}

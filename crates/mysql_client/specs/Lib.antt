@@ -1,0 +1,5 @@
+pub mod Outgoing
+pub mod ClientState
+pub mod Sends
+pub mod SentStatements
+pub mod SentOtherwise

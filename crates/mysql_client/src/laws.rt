@@ -1,0 +1,64 @@
+//! Laws about what a client sends. A function without a result does nothing: it is called for its
+//! `ensures`.
+ghost use Rattle.std.specs.Prelude.{◌≡◌, ℕ, Bool, List, [], ◌∷◌, ◌++◌, codes, None, false, IsFalse};
+ghost use Rattle.mysql_sql_text.specs.StringUnits.{with_backslashes};
+ghost use Rattle.mysql_named_params.specs.Tokens.{Token, IsTokens};
+ghost use Rattle.mysql_named_params.specs.TokensOf.{tokens_of};
+ghost use Rattle.mysql_portable.specs.FirstUnportableInClient.{first_unportable_in_client};
+ghost use Rattle.mysql_client.specs.ClientState.{Program, mariadb};
+ghost use Rattle.mysql_client.specs.Sends.{sends};
+ghost use Rattle.mysql_client.specs.SentOtherwise.{IsSentOtherwiseBy, IsOverlooked, Sends};
+ghost use Rattle.mysql_portable.specs.declared.portable.Construct.TheVariants as construct;
+ghost use Rattle.mysql_client.specs.SentStatements.{sent_statements, HoldNoSpecial, BeginWithNoMark, ends_in_backslash};
+
+/// What a client sends of a text in which `first_unportable_in_client` finds nothing: the text's
+/// statements, each as it is, without a command of the client. The text has no `/*!`, `/*+` and
+/// `/*M!`, no statement begins with `?`, and its last byte is no backslash.
+pub fn portable_texts_are_sent()
+    ensures sent { (p : Program) (mode : Bool) (text : List ℕ) (ts : List Token) →
+        IsTokens mode text ts → first_unportable_in_client ts ≡ None → HoldNoSpecial ts →
+        BeginWithNoMark ts → IsFalse (ends_in_backslash text) →
+        sends p mode text
+        ≡ record { statements = sent_statements p ts; comes_to_command = false } }
+{}
+
+/// For each construct of a client a text in which it is found first, and which a client sends
+/// otherwise, although all else holds that `portable_texts_are_sent` asks. `ClientWord` and
+/// `DashInFront` are of MariaDB's client. By `JoiningComment` the space that the client owes comes
+/// within a word: `/**/éa` is sent as `/**/é a`. `DashesBeforeComment` changes nothing as long as a
+/// client keeps comments.
+pub fn constructs_are_sharp()
+    ensures zero_byte { (p : Program) →
+        IsSentOtherwiseBy p (97 ∷ 0 ∷ []) construct.ZeroByte 1 }
+    ensures opener_in_comment { (p : Program) →
+        IsSentOtherwiseBy p (codes "/*/*!*/;5") construct.OpenerInComment 0 }
+    ensures escaped_newline { (p : Program) →
+        IsSentOtherwiseBy p (codes "'\\\n'") construct.EscapedNewline 0 }
+    ensures delimiter { (p : Program) →
+        IsSentOtherwiseBy p (codes "5\ndelimiter\n5") construct.Delimiter 2 }
+    ensures client_command { (p : Program) →
+        IsSentOtherwiseBy p (codes "5\\g") construct.ClientCommand 1 }
+    ensures client_word { IsSentOtherwiseBy mariadb (codes "use a") construct.ClientWord 0 }
+    ensures dash_in_front { IsSentOtherwiseBy mariadb (codes "--a\n5") construct.DashInFront 0 }
+    ensures joining_comment { (p : Program) →
+        Sends p (codes "/**/" ++ 195 ∷ 169 ∷ 97 ∷ [])
+        ((codes "/**/" ++ 195 ∷ 169 ∷ 32 ∷ 97 ∷ []) ∷ []) }
+{}
+
+/// In these texts nothing is found, and a client sends something else. So the other conditions of
+/// `portable_texts_are_sent` are needed:
+/// - MariaDB's client takes `?` where a statement begins for its word `help`.
+/// - A backslash at the end of a text isn't sent, even in quotes that stay open.
+/// - After a hint MariaDB's client sends a space that isn't in the text.
+/// - The space that is owed after a comment may come within the first word after a `;` on its line:
+///   `/**/;éa` is sent as `/**/` and `é a`.
+pub fn conditions_are_needed()
+    ensures mark_in_front { IsOverlooked mariadb (codes "?") }
+    ensures backslash_at_end { (p : Program) → IsOverlooked p (codes "'a\\") }
+    ensures hint { IsOverlooked mariadb (codes "a/*+b*/,c") }
+    ensures nothing_after_end { first_unportable_in_client
+        (tokens_of with_backslashes (codes "/**/;" ++ 195 ∷ 169 ∷ 97 ∷ [])) ≡ None }
+    ensures joining_after_end { (p : Program) →
+        Sends p (codes "/**/;" ++ 195 ∷ 169 ∷ 97 ∷ [])
+        (codes "/**/" ∷ (195 ∷ 169 ∷ 32 ∷ 97 ∷ []) ∷ []) }
+{}
