@@ -170,6 +170,14 @@ def _is_gap(text: bytes) -> bool:
     return text != b"" and _is_space(text[0]) and not _ends_here(text)
 
 
+def _begins_in_ascii(text: bytes) -> bool:
+    return all(b < 128 for b in text[:9])
+
+
+def _begins_delimiter(client: str, text: bytes) -> bool:
+    return _begins_word(b"delimiter", text) and (client == MARIADB or _begins_in_ascii(text))
+
+
 def _is_mariadb_word(b: int, rest: bytes) -> bool:
     if b == _MARK:
         return _ends_word(rest)
@@ -178,7 +186,7 @@ def _is_mariadb_word(b: int, rest: bytes) -> bool:
 
 
 def _is_own_word(client: str, b: int, rest: bytes) -> bool:
-    return _begins_word(b"delimiter", bytes([b]) + rest[:8]) or (client == MARIADB and _is_mariadb_word(b, rest))
+    return _begins_delimiter(client, bytes([b]) + rest[:8]) or (client == MARIADB and _is_mariadb_word(b, rest))
 
 
 def _is_tag_byte(b: int) -> bool:
@@ -226,13 +234,13 @@ def _after_slash(rest: bytes) -> str:
     return "null" if rest[:1] == b"N" else "dropped" if _ends_here(rest[:2]) else "command"
 
 
-def _holds_delimiter(text: bytes) -> bool:
-    return any(_begins_word(b"delimiter", text[at : at + 9]) for at in range(len(text)))
+def _holds_delimiter(client: str, text: bytes) -> bool:
+    return any(_begins_delimiter(client, text[at : at + 9]) for at in range(len(text)))
 
 
 def _hides_command(client: str, b: int, rest: bytes) -> bool:
     special = b == _SLASH and rest[:1] == b"*" and _special_at(client, rest[1:3]) != "none"
-    return special and client == MYSQL and _holds_delimiter(rest)
+    return special and client == MYSQL and _holds_delimiter(client, rest)
 
 
 def _beginning(client: str, s: State, b: int, rest: bytes) -> str:
@@ -359,10 +367,10 @@ def _goes_on(reading: Reading) -> bool:
     return reading not in (STOPPED, AT_COMMAND)
 
 
-def _at_line(rest: bytes, s: State) -> State:
+def _at_line(client: str, rest: bytes, s: State) -> State:
     if _holds_zero(rest):
         return s._replace(reading=STOPPED)
-    return s._replace(special="none", drops=_begins_word(b"delimiter", rest[:9]))
+    return s._replace(special="none", drops=_begins_delimiter(client, rest[:9]))
 
 
 def _line_ended(s: State) -> State:
@@ -376,8 +384,8 @@ def _line_ended(s: State) -> State:
     return s._replace(out=_end_line(False, s.out))
 
 
-def _next_line(rest: bytes, s: State) -> State:
-    return _at_line(rest, _line_ended(s)) if _goes_on(s.reading) else s
+def _next_line(client: str, rest: bytes, s: State) -> State:
+    return _at_line(client, rest, _line_ended(s)) if _goes_on(s.reading) else s
 
 
 def _is_return(b: int, rest: bytes) -> bool:
@@ -388,12 +396,12 @@ def step(client: str, mode: bool, s: State, b: int, rest: bytes) -> State:
     """Return the state after a byte before this rest."""
     if _is_return(b, rest):
         return s
-    return _next_line(rest, s) if b == _NEWLINE else _read(client, mode, s, b, rest)
+    return _next_line(client, rest, s) if b == _NEWLINE else _read(client, mode, s, b, rest)
 
 
-def begin(text: bytes) -> State:
+def begin(client: str, text: bytes) -> State:
     """Return the state at the front of a text."""
-    return _at_line(text, State(OUTSIDE, "none", True, False, Outgoing()))
+    return _at_line(client, text, State(OUTSIDE, "none", True, False, Outgoing()))
 
 
 def _sent_at_end(reading: Reading, o: Outgoing) -> list:
@@ -409,7 +417,7 @@ def _without_mark(text: bytes) -> bytes:
 def sends(client: str, mode: bool, text: bytes) -> list:
     """Return the statements that the client sends of a text, with `COMMAND` at the end if it comes to one."""
     text = _without_mark(text)
-    s = begin(text)
+    s = begin(client, text)
     for at, b in enumerate(text):
         s = step(client, mode, s, b, text[at + 1 :])
     return _sent_at_end(s.reading, s.out)

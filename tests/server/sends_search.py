@@ -85,13 +85,15 @@ def _closed(name: str, mode: bool, text: bytes):
         if kind in ("stopped", "at_command"):
             return None
         if kind == "outside" and state.fresh and state.out.gathered == b"" and text.endswith(b"\n"):
-            return text
+            # At a special comment the definition stops if the word `delimiter` comes anywhere behind it.
+            after = _state(name, mode, text + b"a delimiter")
+            return None if after.reading == sends.AT_COMMAND else text
         text += {"in_quotes": bytes([of or 0]), "after_backslash": bytes([of or 0]), "in_comment": b"*/"}.get(kind, b"\n;\n")
     return None
 
 
 def _state(name: str, mode: bool, text: bytes) -> sends.State:
-    s = sends.begin(text)
+    s = sends.begin(name, text)
     for at, b in enumerate(text):
         s = sends.step(name, mode, s, b, text[at + 1 :])
     return s

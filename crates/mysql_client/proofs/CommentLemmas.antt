@@ -7,7 +7,7 @@ use Rattle.mysql_named_params.specs.Bytes.{asterisk, carriage_return, exclamatio
 use Rattle.mysql_portable.specs.Client.{begins_opener, begins_end, holds_opener}
 use Rattle.mysql_portable.specs.FoundInClient.{begins_word}
 use Rattle.mysql_client.specs.Outgoing.{Outgoing}
-use Rattle.mysql_client.specs.ClientState.{Program, is_mariadb, no_special, only_read, Reading, in_comment, State, is_none, special_at, begins_block, begins_close, opened, special_after}
+use Rattle.mysql_client.specs.ClientState.{Program, begins_delimiter, is_mariadb, no_special, only_read, Reading, in_comment, State, is_none, special_at, begins_block, begins_close, opened, special_after}
 use Rattle.mysql_client.specs.Sends.{step, is_return}
 use Rattle.mysql_client.specs.SentStatements.{comment_byte, comment_out}
 use Rattle.mysql_client.proofs.StepLemmas.{before, differs, HasNoZero, no_zero_after, no_zero_line}
@@ -69,7 +69,7 @@ byte_in_block p mode f d b rest o z c k h =
     elim (cases_Bool (is_return b rest)) [
       | inl r ↦ (d, rw r refl)
       | inr r ↦ elim (cases_Bool (b == newline)) [
-        | inl n ↦ (begins_word (codes "delimiter") rest, rw (r, n, no_zero_line rest (no_zero_after b rest z)) refl)
+        | inl n ↦ (begins_delimiter p rest, rw (r, n, no_zero_line rest (no_zero_after b rest z)) refl)
         | inr n ↦ (d, rw (special_stays p b rest h, r, n, k, c) refl)
       ]
     ]

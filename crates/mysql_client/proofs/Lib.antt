@@ -7,4 +7,6 @@ pub mod PlainStepLemmas
 pub mod PlainFactLemmas
 pub mod TokenLemmas
 pub mod SentLemmas
+pub mod KeptLemmas
+pub mod BareLemmas
 pub mod SharpLemmas

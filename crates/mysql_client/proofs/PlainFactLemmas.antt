@@ -14,7 +14,7 @@ use Rattle.mysql_portable.specs.Portable.{is_read_alike, differs_at, may_open_li
 use Rattle.mysql_portable.specs.FoundInClient.{letter_of, begins_word, ends_word, is_client_word, is_word_of_mariadb, is_word_of_mysql, drops_line, closes_before_joined, stand_before_comment, found_word, found_at_byte}
 use Rattle.mysql_portable.specs.declared.portable.Construct.{Construct}
 use Rattle.mysql_client.specs.Outgoing.{is_space}
-use Rattle.mysql_client.specs.ClientState.{Program, is_mariadb, is_gap, is_own_word, hides_command, begins_slash_star, ends_dashes, ends_tag}
+use Rattle.mysql_client.specs.ClientState.{Program, begins_in_ascii, is_mariadb, is_gap, is_own_word, hides_command, begins_slash_star, ends_dashes, ends_tag}
 use Rattle.mysql_client.proofs.StepLemmas.{and_no, differs}
 use Rattle.mysql_client.proofs.PlainStepLemmas.{IsPassed}
 
@@ -130,7 +130,7 @@ own_is_none p ln st b rest s l m h =
     let word = (or_parts (is_word_of_mariadb (letter_of b) rest) (is_word_of_mysql (letter_of b) rest) c).0 in
     own (letter_of b == byte "d" && begins_word (codes "elimiter") rest) (is_word_of_mariadb (letter_of b) rest) d word
   where
-    own : (x y : Bool) → x ≡ false → y ≡ false → (x || (cond (b == question_mark) (ends_word rest) y && is_mariadb p)) ≡ false
+    own : (x y : Bool) → x ≡ false → y ≡ false → ((x && (is_mariadb p || begins_in_ascii (b ∷ rest))) || (cond (b == question_mark) (ends_word rest) y && is_mariadb p)) ≡ false
     own x y e k = rw (e, k, m) refl
 
 -- ---- all of it

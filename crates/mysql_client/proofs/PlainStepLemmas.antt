@@ -98,8 +98,8 @@ newline_of p mode st ln a f rest o k z w =
     going f (go a) (record { fresh_is = k.fresh_is; line_is = λ x. refl; after_is = λ x. absurd (true≢false (sym x)) })
   where
     go : (a : Bool) → step p mode (base (place a) f o) newline rest ≡ base outside f (end_line false (send_if a o))
-    go false = line_goes rest (base outside f (end_line false o)) z w
-    go true = line_goes rest (base outside f (end_line false (send o))) z w
+    go false = line_goes p rest (base outside f (end_line false o)) z w
+    go true = line_goes p rest (base outside f (end_line false (send o))) z w
 
 end_of : (p : Program) (mode st ln a f : Bool) (rest : List ℕ) (o : Outgoing) →
     Arrived (step p mode (base (place a) f o) (byte ";") rest) rest true true (record { after = true; out = send_if a o })

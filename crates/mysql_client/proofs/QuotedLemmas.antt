@@ -81,7 +81,7 @@ newline_inside : (p : Program) (mode : Bool) (q b : ℕ) (bs rest : List ℕ) (o
 newline_inside p mode q b bs rest o n r t w =
     let l = or_parts (b == newline && begins_word (codes "delimiter") bs) (begins_delimiter_line bs) t.line in
     let word : begins_word (codes "delimiter") bs ≡ false = sym (ap (λ c. c && begins_word (codes "delimiter") bs) n) ∙ l.0 in
-    rw (r, n) (line_goes (bs ++ rest) (record (inside q o) { out = end_line false o }) (no_zero_after b (bs ++ rest) t.zero) (w word))
+    rw (r, n) (line_goes p (bs ++ rest) (record (inside q o) { out = end_line false o }) (no_zero_after b (bs ++ rest) t.zero) (w word))
 
 -- an ordinary byte in quotes
 byte_inside : (p : Program) (mode : Bool) (q b : ℕ) (rest : List ℕ) (o : Outgoing) → is_return b rest ≡ false →

@@ -136,8 +136,8 @@ sent_lines : (p : Program) (mode : Bool) (ts : List Token) → AreTokensBefore m
     BeginWithNoMarkFrom true ts → ends_in_backslash (text_of ts) ≡ false →
     sends_lines p mode (text_of ts) ≡ record { statements = sent_from p ts; comes_to_command = false }
 sent_lines p mode ts h e s m l =
-    let front : begin (text_of ts) ≡ base outside true nothing_sent =
-    line_goes (text_of ts) (base outside true nothing_sent) (no_zero true true ts e) (no_word mode true ts h e) in
+    let front : begin p (text_of ts) ≡ base outside true nothing_sent =
+    line_goes p (text_of ts) (base outside true nothing_sent) (no_zero true true ts e) (no_word mode true ts h e) in
     ap (λ x. finish (steps p mode x (text_of ts))) front
     ∙ walk p mode true true true (record { after = false; out = nothing_sent }) ts (record { fresh_is = λ x. refl; line_is = λ x. refl; after_is = λ x. absurd (true≢false (sym x)) }) h e s m l
 

@@ -92,6 +92,6 @@ no_zero_line (b ∷ bs) h =
     go true = refl
     go false = refl
 
-pub line_goes : (rest : List ℕ) (s : State) → HasNoZero rest → begins_word (codes "delimiter") rest ≡ false →
-    at_line rest s ≡ record s { special = no_special; drops = false }
-line_goes rest s z w = rw (no_zero_line rest z, w) refl
+pub line_goes : (p : Program) (rest : List ℕ) (s : State) → HasNoZero rest → begins_word (codes "delimiter") rest ≡ false →
+    at_line p rest s ≡ record s { special = no_special; drops = false }
+line_goes p rest s z w = rw (no_zero_line rest z, w) refl

@@ -77,7 +77,7 @@ line_of p mode ends f (b ∷ bs) rest o u z w =
       | inr r ↦ elim (cases_Bool (b == newline)) [
         | inl n ↦
             let nil : bs ≡ [] = u.0 n in
-            let go = line_goes rest (base outside f (end_line false (send_if ends o))) (subst (λ x. HasNoZero (x ++ rest)) nil (no_zero_after b (bs ++ rest) z)) w in
+            let go = line_goes p rest (base outside f (end_line false (send_if ends o))) (subst (λ x. HasNoZero (x ++ rest)) nil (no_zero_after b (bs ++ rest) z)) w in
             let ret : is_return b rest ≡ false = sym (ap (λ x. is_return b (x ++ rest)) nil) ∙ r in
             subst (λ x. Ends (before p mode rest (in_line_comment ends f o) (b ∷ x)) rest f (line_out ends (b ∷ x) rest o)) (sym nil)
             (rw (ret, n) (closed_end go))

@@ -1,6 +1,7 @@
 -- Where a client is in a text, and what begins at a byte there. A *special* comment is one of `/*!`,
 -- `/*+` and `/*M!`.
-use Rattle.std.specs.Prelude.{ℕ, Bool, true, false, not, ◌==◌, ◌&&◌, ◌||◌, if◌then◌else◌, List, [], ◌∷◌, drop, codes}
+use Rattle.std.specs.Prelude.{ℕ, Bool, true, false, not, ◌==◌, ◌&&◌, ◌||◌, if◌then◌else◌, List, [], ◌∷◌, drop, codes, nat_lt, take}
+use Rattle.std.specs.List.{list_all}
 use Rattle.std.specs.Str.{byte}
 use Rattle.mysql_named_params.specs.Bytes.{asterisk, backquote, carriage_return, dash, dollar, exclamation_mark, hash, newline, plus, question_mark, slash, is_string_quote, begins}
 use Rattle.mysql_portable.specs.ServerTokens.{is_tag_byte}
@@ -70,6 +71,15 @@ ends_here (b ∷ bs) = b == newline || (b == carriage_return && begins (λ c. c 
 abbrev pub is_gap : List ℕ → Bool
 is_gap text = begins is_space text && not (ends_here text)
 
+-- the first bytes of the text, as many as `delimiter` has, are ASCII
+abbrev pub begins_in_ascii : List ℕ → Bool
+begins_in_ascii text = list_all (λ b. nat_lt b 128) (take 9 text)
+
+-- The text begins with the word `delimiter`. Only `mariadb` also takes letters with accents.
+abbrev pub begins_delimiter : Program → List ℕ → Bool
+begins_delimiter p text =
+    begins_word (codes "delimiter") text && (is_mariadb p || begins_in_ascii text)
+
 -- this byte before this text is a word of MariaDB's client, with `?`
 abbrev pub is_mariadb_word : ℕ → List ℕ → Bool
 is_mariadb_word b rest =
@@ -79,7 +89,7 @@ is_mariadb_word b rest =
 -- `--commands`.
 abbrev pub is_own_word : Program → ℕ → List ℕ → Bool
 is_own_word p b rest =
-    begins_word (codes "delimiter") (b ∷ rest) || (is_mariadb_word b rest && is_mariadb p)
+    begins_delimiter p (b ∷ rest) || (is_mariadb_word b rest && is_mariadb p)
 
 -- after `$`: the rest of `$$` or `$tag$`
 abbrev pub ends_tag : List ℕ → Bool
@@ -171,16 +181,16 @@ begins_slash_star [] = false
 begins_slash_star (b ∷ bs) = b == slash && begins (λ c. c == asterisk) bs
 
 -- the word `delimiter` is in the text
-abbrev pub holds_delimiter : List ℕ → Bool
-holds_delimiter [] = false
-holds_delimiter (b ∷ bs) = begins_word (codes "delimiter") (b ∷ bs) || holds_delimiter bs
+abbrev pub holds_delimiter : Program → List ℕ → Bool
+holds_delimiter p [] = false
+holds_delimiter p (b ∷ bs) = begins_delimiter p (b ∷ bs) || holds_delimiter p bs
 
 -- A special comment that `mysql` may lose: it looks for the word `delimiter` after the comments at
 -- the front of a statement, and doesn't always see where a special one ends.
 abbrev pub hides_command : Program → ℕ → List ℕ → Bool
 hides_command p b rest =
     (begins_slash_star (b ∷ rest) && not (is_none (special_at p (drop 1 rest))))
-    && (holds_delimiter rest && not (is_mariadb p))
+    && (holds_delimiter p rest && not (is_mariadb p))
 
 -- what begins at a byte before this text, outside of quotes and comments
 abbrev pub beginning : Program → State → ℕ → List ℕ → Beginning

@@ -6,9 +6,8 @@
 use Rattle.std.specs.Prelude.{ℕ, Bool, true, false, not, ◌==◌, ◌&&◌, ◌||◌, if◌then◌else◌, List, [], ◌∷◌, drop, codes}
 use Rattle.std.specs.Str.{byte}
 use Rattle.mysql_named_params.specs.Bytes.{backquote, carriage_return, dash, hash, newline, begins}
-use Rattle.mysql_portable.specs.FoundInClient.{begins_word}
 use Rattle.mysql_client.specs.Outgoing.{Outgoing, is_space, is_empty, pass_on, pass_as_is, pass_with_next, owe, send, send_if, end_line}
-use Rattle.mysql_client.specs.ClientState.{Program, is_mariadb, no_special, Reading, outside, after_end, in_quotes, after_backslash, opens_comment, in_comment, closes_comment, in_line, stopped, at_command, State, ends_here, is_none, is_hint, begins_block, begins_close, ends_dashes, escapes, Beginning, command, null, dropped, end, line_comment, empty_comment, block_comment, quotes, other, beginning, special_after}
+use Rattle.mysql_client.specs.ClientState.{Program, is_mariadb, no_special, Reading, outside, after_end, in_quotes, after_backslash, opens_comment, in_comment, closes_comment, in_line, stopped, at_command, State, ends_here, is_none, is_hint, begins_block, begins_close, begins_delimiter, ends_dashes, escapes, Beginning, command, null, dropped, end, line_comment, empty_comment, block_comment, quotes, other, beginning, special_after}
 
 -- ---- a byte of a line
 
@@ -117,10 +116,10 @@ goes_on at_command = false
 goes_on r = true
 
 -- the front of a line
-abbrev pub at_line : List ℕ → State → State
-at_line rest s =
+abbrev pub at_line : Program → List ℕ → State → State
+at_line p rest s =
     if holds_zero rest then record s { reading = stopped }
-    else record s { special = no_special; drops = begins_word (codes "delimiter") rest }
+    else record s { special = no_special; drops = begins_delimiter p rest }
 
 -- The end of a line, by what the client is reading. It drops the newline after a line that begins
 -- with `delimiter`, unless a string, an identifier or a comment is open.
@@ -132,8 +131,8 @@ line_ended (in_line ends) s =
 line_ended r s = record s { out = end_line false s.out }
 
 -- the end of a line, and the front of the next
-abbrev pub next_line : List ℕ → State → State
-next_line rest s = if goes_on s.reading then at_line rest (line_ended s.reading s) else s
+abbrev pub next_line : Program → List ℕ → State → State
+next_line p rest s = if goes_on s.reading then at_line p rest (line_ended s.reading s) else s
 
 -- a carriage return before a newline
 abbrev pub is_return : ℕ → List ℕ → Bool
@@ -143,7 +142,7 @@ is_return b rest = b == carriage_return && begins (λ c. c == newline) rest
 abbrev pub step : Program → Bool → State → ℕ → List ℕ → State
 step p mode s b rest =
     if is_return b rest then s
-    else if b == newline then next_line rest s
+    else if b == newline then next_line p rest s
     else read p mode s.reading s b rest
 
 -- the bytes of a text
@@ -158,8 +157,8 @@ abbrev pub nothing_sent : Outgoing
 nothing_sent = record { sent = []; gathered = []; owed = false; left = 0 }
 
 -- the front of a text
-abbrev pub begin : List ℕ → State
-begin text = at_line text (record {
+abbrev pub begin : Program → List ℕ → State
+begin p text = at_line p text (record {
   reading = outside;
   special = no_special;
   fresh = true;
@@ -184,7 +183,7 @@ sent_at_end r o = record { statements = (send o).sent; comes_to_command = false 
 -- what is sent of a text without a UTF-8 mark
 abbrev pub sends_lines : Program → Bool → List ℕ → Sending
 sends_lines p mode text =
-    let s = steps p mode (begin text) text in sent_at_end s.reading s.out
+    let s = steps p mode (begin p text) text in sent_at_end s.reading s.out
 
 -- the text begins with a UTF-8 mark: EF BB BF
 abbrev pub begins_mark : List ℕ → Bool
