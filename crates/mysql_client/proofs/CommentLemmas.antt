@@ -1,11 +1,10 @@
 -- A block comment, as a client reads it.
-use Rattle.std.specs.Prelude.{Bool, not, codes}
+use Rattle.std.specs.Prelude.{Bool, not}
 use Rattle.std.proofs.Common.{◌≡◌, ℕ, true, false, cond, ◌==◌, ◌&&◌, ◌||◌, List, [], ◌∷◌, ◌++◌, refl, sym, ap, ◌∙◌, subst, inl, inr}
 use Rattle.std.specs.Str.{byte}
 use Rattle.std.proofs.lemmas.Bool.{cases_Bool, and_parts, or_parts, eqb-true}
 use Rattle.mysql_named_params.specs.Bytes.{asterisk, carriage_return, exclamation_mark, newline, plus, slash, is_extension, begins}
 use Rattle.mysql_portable.specs.Client.{begins_opener, begins_end, holds_opener}
-use Rattle.mysql_portable.specs.FoundInClient.{begins_word}
 use Rattle.mysql_client.specs.Outgoing.{Outgoing}
 use Rattle.mysql_client.specs.ClientState.{Program, begins_delimiter, is_mariadb, no_special, only_read, Reading, in_comment, State, is_none, special_at, begins_block, begins_close, opened, special_after}
 use Rattle.mysql_client.specs.Sends.{step, is_return}

@@ -1,11 +1,10 @@
 -- Bytes that are gathered while the client owes no space.
-use Rattle.std.specs.Prelude.{Bool, not, nat_lt}
-use Rattle.std.proofs.Common.{◌≡◌, ◌⊎◌, ℕ, ◌-◌, true, false, cond, ◌==◌, ◌&&◌, ◌||◌, List, [], ◌∷◌, ◌++◌, refl, sym, ap, ◌∙◌, subst, inl, inr, true≢false, append_assoc, append-nil}
-use Rattle.std.specs.List.{list_any}
+use Rattle.std.specs.Prelude.{Bool, nat_lt}
+use Rattle.std.proofs.Common.{◌≡◌, ℕ, ◌-◌, true, false, cond, ◌==◌, ◌||◌, List, [], ◌∷◌, ◌++◌, refl, sym, ap, ◌∙◌, inl, inr, true≢false, append_assoc, append-nil}
 use Rattle.std.specs.Str.{byte}
-use Rattle.std.proofs.lemmas.Bool.{cases_Bool, and_parts, or_parts, eqb-true}
-use Rattle.mysql_named_params.specs.Bytes.{carriage_return, newline, begins}
-use Rattle.mysql_client.specs.Outgoing.{Outgoing, is_empty, trimmed, with_statement, pass_on, pass_as_is, pass_with_next, settle, send, send_if, end_line}
+use Rattle.std.proofs.lemmas.Bool.{cases_Bool, or_parts, eqb-true}
+use Rattle.mysql_named_params.specs.Bytes.{carriage_return, newline}
+use Rattle.mysql_client.specs.Outgoing.{Outgoing, is_empty, trimmed, with_statement, pass_on, pass_as_is, pass_with_next, settle, send, end_line}
 use Rattle.mysql_client.specs.ClientState.{begins_empty_comment}
 use Rattle.mysql_client.specs.Sends.{is_return}
 use Rattle.mysql_client.specs.SentStatements.{line_byte, line_out, name_out, plain_out}

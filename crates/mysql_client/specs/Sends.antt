@@ -3,7 +3,7 @@
 -- and drops a carriage return before a newline. From a line with a byte 0 on it reads no more. It looks
 -- for strings, identifiers and comments to know where a statement ends. Source: the texts that the
 -- clients send, by experiment (docs/EVIDENCE.md).
-use Rattle.std.specs.Prelude.{ℕ, Bool, true, false, not, ◌==◌, ◌&&◌, ◌||◌, if◌then◌else◌, List, [], ◌∷◌, drop, codes}
+use Rattle.std.specs.Prelude.{ℕ, Bool, true, false, not, ◌==◌, ◌&&◌, ◌||◌, if◌then◌else◌, List, [], ◌∷◌, drop}
 use Rattle.std.specs.Str.{byte}
 use Rattle.mysql_named_params.specs.Bytes.{backquote, carriage_return, dash, hash, newline, begins}
 use Rattle.mysql_client.specs.Outgoing.{Outgoing, is_space, is_empty, pass_on, pass_as_is, pass_with_next, owe, send, send_if, end_line}

@@ -1,12 +1,14 @@
 //! Laws about what a client sends. A function without a result does nothing: it is called for its
 //! `ensures`.
-ghost use Rattle.std.specs.Prelude.{◌≡◌, ℕ, Bool, List, [], ◌∷◌, ◌++◌, codes, None, false, IsFalse};
+ghost use Rattle.std.specs.Prelude.{◌≡◌, ℕ, Bool, List, [], ◌∷◌, ◌++◌, codes, map, None, false, IsFalse};
 ghost use Rattle.mysql_sql_text.specs.StringUnits.{with_backslashes};
 ghost use Rattle.mysql_named_params.specs.Tokens.{Token, IsTokens};
 ghost use Rattle.mysql_named_params.specs.TokensOf.{tokens_of};
 ghost use Rattle.mysql_portable.specs.FirstUnportableInClient.{first_unportable_in_client};
+ghost use Rattle.mysql_portable.specs.Statements.{statements};
 ghost use Rattle.mysql_client.specs.ClientState.{Program, mariadb};
-ghost use Rattle.mysql_client.specs.Sends.{sends};
+ghost use Rattle.mysql_client.specs.Sends.{begins_mark, sends};
+ghost use Rattle.mysql_client.specs.PlainStatements.{past_space, bare_texts, HoldNoComment, has_return};
 ghost use Rattle.mysql_client.specs.SentOtherwise.{IsSentOtherwiseBy, IsOverlooked, Sends};
 ghost use Rattle.mysql_portable.specs.declared.portable.Construct.TheVariants as construct;
 ghost use Rattle.mysql_client.specs.SentStatements.{sent_statements, HoldNoSpecial, BeginWithNoMark, ends_in_backslash};
@@ -61,4 +63,16 @@ pub fn conditions_are_needed()
     ensures joining_after_end { (p : Program) →
         Sends p (codes "/**/;" ++ 195 ∷ 169 ∷ 97 ∷ [])
         (codes "/**/" ∷ (195 ∷ 169 ∷ 32 ∷ 97 ∷ []) ∷ []) }
+{}
+
+/// If the text has no comment, no carriage return and no UTF-8 mark either, what a client sends is
+/// the texts of `statements`, the tokens between one `;` and the next, except empty ones. White
+/// space at both ends of a statement, and control bytes and the byte 255 at its end, count for
+/// nothing here.
+pub fn texts_without_comments_are_sent()
+    ensures sent { (p : Program) (mode : Bool) (text : List ℕ) (ts : List Token) →
+        IsTokens mode text ts → first_unportable_in_client ts ≡ None → HoldNoSpecial ts →
+        BeginWithNoMark ts → IsFalse (ends_in_backslash text) → HoldNoComment ts →
+        IsFalse (has_return text) → IsFalse (begins_mark text) →
+        map past_space (sends p mode text).statements ≡ bare_texts (statements ts) }
 {}
