@@ -6,15 +6,16 @@ own. A text at which the definition stops, as at a command of the client, is the
 
 import os
 import random
+import re
 import shutil
 import sys
 import tempfile
 import time
 
+import sends
 from client import OPTIONS
 from harness import Tests, same
 from recorder import MARIADB, MYSQL, Client, Recorder
-import sends
 
 _TEXTS, _SEED = 100_000, 95
 _AT_ONCE = 40
@@ -62,12 +63,18 @@ def _search(folder: str, client: Client, texts: int, seed: int) -> str:
     return f"{texts} texts, {statements} statements, {runs} processes, {stops} commands"
 
 
+# What the definition leaves open of MySQL's client: see Sends.antt.
+_LEFT_OPEN = re.compile(rb"/\*/.*delimiter", re.DOTALL | re.IGNORECASE)
+
+
 def _texts(name: str, mode: bool, maker: random.Random, most: int) -> tuple:
     """Return texts one after another, and how many they are."""
     made = b""
     for count in range(1, most + 1):
         while True:
             text = b"".join(maker.choice(_PIECES) for _ in range(maker.randint(1, 14)))
+            if name == sends.MYSQL and _LEFT_OPEN.search(text):
+                continue
             closed = _closed(name, mode, text)
             if closed is not None or maker.randrange(_OF_STOPPED) == 0:
                 break

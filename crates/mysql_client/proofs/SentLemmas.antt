@@ -25,8 +25,8 @@ use Rattle.mysql_client.proofs.TokenLemmas.{token_of}
 -- ---- what is found
 
 nothing_at : (found : Option Construct) (at : ℕ) (later : Option Unportable) → found_or found at later ≡ None →
-    (found ≡ None) × (later ≡ None)
-nothing_at None at later e = (refl, e)
+    (later ≡ None) × (found ≡ None)
+nothing_at None at later e = (e, refl)
 nothing_at (Some c) at later e = cc
 
 nothing_in : (st ln : Bool) (t : Token) (rest : List ℕ) → found_at st ln t rest ≡ None →
@@ -52,8 +52,8 @@ clear_of : (ts : List Token) (at : ℕ) (st ln : Bool) → first_in_client_from 
 clear_of [] at st ln e = tt
 clear_of (t ∷ ts) at st ln e =
     let both = nothing_at (found_at st ln t (text_of ts)) at (first_in_client_from (at + length (bytes_of t)) (begins_statement st t) (begins_line ln t) ts) e in
-    let here = nothing_in st ln t (text_of ts) both.0 in
-    (here.0, here.1, clear_of ts (at + length (bytes_of t)) (begins_statement st t) (begins_line ln t) both.1)
+    let here = nothing_in st ln t (text_of ts) both.1 in
+    (here.0, here.1, clear_of ts (at + length (bytes_of t)) (begins_statement st t) (begins_line ln t) both.0)
 
 -- no byte is 0
 no_zero : (st ln : Bool) (ts : List Token) → IsClear st ln ts → HasNoZero (text_of ts)

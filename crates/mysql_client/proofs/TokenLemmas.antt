@@ -152,9 +152,9 @@ open_colon : (p : Program) (mode a f : Bool) (rest : List ℕ) (o : Outgoing) �
 open_colon p mode false f rest o = refl
 open_colon p mode true f rest o = refl
 
-name_bytes : (name : List ℕ) → IsName name → list_all is_name_byte name ≡ true
-name_bytes [] h = absurd h
-name_bytes (b ∷ bs) h = rw (h.0, h.1) refl
+all_name_bytes : (name : List ℕ) → IsName name → true ≡ list_all is_name_byte name
+all_name_bytes [] h = absurd h
+all_name_bytes (b ∷ bs) h = rw (h.0, h.1) refl
 
 mark_of : (p : Program) (mode : Bool) (rest : List ℕ) (o : Outgoing) →
     step p mode (base outside false o) question_mark rest ≡ base outside false (pass_on question_mark rest o)
@@ -199,7 +199,7 @@ token_of p mode st ln a f (BlockComment tail) rest o k h alike found special mar
     (arrive st true (f && not (is_mariadb p)) _ (block_of p mode (f && not (is_mariadb p)) false tail rest (pass_on asterisk (tail ++ rest) (pass_with_next slash (send_if a o))) up (no_zero_after asterisk (tail ++ rest) (no_zero_after slash (asterisk ∷ (tail ++ rest)) z)) (opener_in_front tail rest h.1 ∙ holds))
     (fits_comment st _ (λ x. k.fresh_is (and_parts f (not (is_mariadb p)) x).0)))
 token_of p mode st ln a f (Name name) rest o k h alike found special mark z l w =
-    going false (ap (λ s. before p mode rest s name) (open_colon p mode a f (name ++ rest) o) ∙ name_of p mode name rest (pass_on colon (name ++ rest) (send_if a o)) (name_bytes name h.0)) (fits_none false)
+    going false (ap (λ s. before p mode rest s name) (open_colon p mode a f (name ++ rest) o) ∙ name_of p mode name rest (pass_on colon (name ++ rest) (send_if a o)) (sym (all_name_bytes name h.0))) (fits_none false)
 token_of p mode st ln a f Mark rest o k h alike found special mark z l w =
     let stale : f ≡ false = elim (cases_Bool f) [ inl e ↦ absurd (true≢false (sym (k.fresh_is e) ∙ mark)) | inr e ↦ e ] in
     let later : a ≡ false = elim (cases_Bool a) [ inl e ↦ absurd (true≢false (sym (k.after_is e).0 ∙ stale)) | inr e ↦ e ] in

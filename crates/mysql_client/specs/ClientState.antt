@@ -1,5 +1,5 @@
--- Where a client is in a text, and what begins at a byte there. A *special* comment is one of `/*!`,
--- `/*+` and `/*M!`.
+-- Where a client is in a text, and what begins at a byte there. A *special* comment is one of
+-- `/*!`, `/*+` and `/*M!`.
 use Rattle.std.specs.Prelude.{ℕ, Bool, true, false, not, ◌==◌, ◌&&◌, ◌||◌, if◌then◌else◌, List, [], ◌∷◌, drop, codes, nat_lt, take}
 use Rattle.std.specs.List.{list_all}
 use Rattle.std.specs.Str.{byte}
@@ -49,7 +49,7 @@ pub data Reading : Type 0 where
   in_line : Bool → Reading
   -- nothing more
   stopped : Reading
-  -- a command of its own, or a text in `$$` or `$tag$`: what the client sends from here on isn't said
+  -- a command of its own, or a text in `$$` or `$tag$`: what is sent from here on isn't said
   at_command : Reading
 
 -- the state of a client
@@ -215,6 +215,7 @@ opened before s = before
 -- the special comment that is open after a byte before this text
 abbrev pub special_after : Program → Special → ℕ → List ℕ → Special
 special_after p special b rest =
-    if b == slash && begins (λ c. c == asterisk) rest then opened special (special_at p (drop 1 rest))
+    if b == slash && begins (λ c. c == asterisk) rest
+    then opened special (special_at p (drop 1 rest))
     else if begins_close b rest then no_special
     else special

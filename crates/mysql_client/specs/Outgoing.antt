@@ -21,7 +21,7 @@ pub record Outgoing : Type 0 where
 abbrev pub is_space : ℕ → Bool
 is_space b = (nat_le tab b && nat_le b carriage_return) || b == space
 
--- a byte that a client drops at the end of a statement: white space, a control byte, or the byte 255
+-- a byte that a client drops at the end of a statement: white space, a control byte, or byte 255
 abbrev pub is_trimmed : ℕ → Bool
 is_trimmed b = nat_le b space || (b == 127 || nat_le 255 b)
 
@@ -65,7 +65,8 @@ more_of_character b rest =
     else if nat_le 224 b && nat_le b 239
     then (if begins_two (if b == 224 then 160 else 128) 191 rest then 2 else 0)
     else if nat_le 240 b && nat_le b 244
-    then (if begins_three (if b == 240 then 144 else 128) (if b == 244 then 143 else 191) rest then 3 else 0)
+    then (if begins_three (if b == 240 then 144 else 128) (if b == 244 then 143 else 191) rest
+    then 3 else 0)
     else 0
 
 -- a byte for which the client puts the space that it owes, or drops it

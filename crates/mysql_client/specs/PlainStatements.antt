@@ -12,8 +12,8 @@ abbrev pub past_space : List ℕ → List ℕ
 past_space [] = []
 past_space (b ∷ bs) = if is_space b then past_space bs else b ∷ bs
 
--- the text without white space at its front, and without white space, control bytes and the byte 255
--- at its end
+-- the text without white space at its front, and without white space, control bytes and the byte
+-- 255 at its end
 abbrev pub bare : List ℕ → List ℕ
 bare text = trimmed (past_space text)
 

@@ -1,8 +1,9 @@
--- What the client `mysql` 9, or `mariadb` 10.11 or 11.8, sends of a text on its standard input, with
--- the options of README: comments are kept, and the character set is utf8mb4. The client reads lines
--- and drops a carriage return before a newline. From a line with a byte 0 on it reads no more. It looks
--- for strings, identifiers and comments to know where a statement ends. Source: the texts that the
--- clients send, by experiment (docs/EVIDENCE.md).
+-- What the client `mysql` 9, or `mariadb` 10.11 or 11.8, sends of a text on its standard input,
+-- with the options of README: comments are kept, and the character set is utf8mb4. The client reads
+-- lines and drops a carriage return before a newline. From a line with a byte 0 on it reads no
+-- more. It looks for strings, identifiers and comments to know where a statement ends. Source: the
+-- texts that the clients send, by experiment (docs/EVIDENCE.md). One case isn't right: at the front
+-- of a statement `mysql` ends a comment that holds `/*/` there, to look for the word `delimiter`.
 use Rattle.std.specs.Prelude.{ℕ, Bool, true, false, not, ◌==◌, ◌&&◌, ◌||◌, if◌then◌else◌, List, [], ◌∷◌, drop}
 use Rattle.std.specs.Str.{byte}
 use Rattle.mysql_named_params.specs.Bytes.{backquote, carriage_return, dash, hash, newline, begins}

@@ -1,10 +1,10 @@
 -- The statements of a text as a client sends them, by the tokens of the grammar: cut at each `;`
--- outside of strings, identifiers and comments, each as it is. *As it is* means its bytes, with these
--- exceptions, none of which is in a token other than a comment or a string with line ends:
+-- outside of strings, identifiers and comments, each as it is, with these exceptions:
 -- - A carriage return before a newline isn't sent.
--- - A space comes after a block comment, if no white space does (Outgoing.antt).
--- - White space, control bytes and the byte 255 at the end of a statement aren't sent, nor are empty
---   lines at its front, nor statements of nothing else.
+-- - A space comes after a block comment, if no white space does (Outgoing.antt). After `;` on the
+--   line of the comment it may come within the next word: `/**/;éa` is sent as `/**/` and `é a`.
+-- - White space, control bytes and the byte 255 at the end of a statement aren't sent, nor are
+--   empty lines at its front, nor statements of nothing else.
 -- - A comment of one line after `;` on its line is sent with the statement before it. If it is the
 --   first of a statement, it is sent like a statement.
 use Rattle.std.specs.Prelude.{ℕ, IsFalse, Bool, true, false, not, ◌==◌, ◌&&◌, ◌||◌, if◌then◌else◌, List, [], ◌∷◌, ◌++◌, drop, ⊤}
