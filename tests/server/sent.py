@@ -1,7 +1,8 @@
 """Where a command-line client sends another text than it is given, whatever the values: what it sends.
 
 Each case is a query, with the statements that reach a server of these tests: with README's options, which keep comments,
-and with comments dropped. docs/LIMITS.md has one of each kind, and says which `first_unportable_in_client` doesn't find.
+and with comments dropped. docs/RULES.md lists the kinds that `first_unportable_in_client` finds, and docs/LIMITS.md those
+that it doesn't.
 """
 
 from typing import NamedTuple, Optional
