@@ -1,10 +1,16 @@
 """A server that runs nothing and keeps the statements that a command-line client sends to it."""
 
 import os
+import pathlib
+import re
 import socket
 import struct
 import subprocess
 from typing import NamedTuple, Optional
+
+# README's options of a client.
+_SHELL = (pathlib.Path(__file__).resolve().parents[2] / "README.md").read_text().partition("\n    mysql ")[2].partition(" < ")[0]
+OPTIONS = tuple(re.findall(r"--\S+", _SHELL))
 
 _COM_QUIT, _COM_QUERY = 1, 3
 _AUTOCOMMIT, _NO_BACKSLASH_ESCAPES = 2, 512

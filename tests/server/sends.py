@@ -234,13 +234,37 @@ def _after_slash(rest: bytes) -> str:
     return "null" if rest[:1] == b"N" else "dropped" if _ends_here(rest[:2]) else "command"
 
 
-def _holds_delimiter(client: str, text: bytes) -> bool:
-    return any(_begins_delimiter(client, text[at : at + 9]) for at in range(len(text)))
+def _begins_line_word(client: str, text: bytes) -> bool:
+    return _begins_delimiter(client, text.lstrip(b" \t\n\v\f\r")[:9])
+
+
+def _look_in(client: str, rest: bytes) -> str:
+    return "at_star" if _special_at(client, rest[1:3]) == "none" else "in_special"
+
+
+def _finds_word(client: str, look: str, text: bytes) -> bool:
+    for at, b in enumerate(text):
+        rest = text[at + 1 :]
+        if look == "past":
+            if _begins_delimiter(client, text[at : at + 9]):
+                return True
+            if not _is_space(b) and not (b == _BACKSLASH and _ends_here(rest[:2])):
+                if b != _SLASH or rest[:1] != b"*":
+                    return False
+                look = _look_in(client, rest)
+        elif look == "at_star":
+            look = "in_plain"
+        elif look == "at_slash":
+            look = "past"
+        elif look == "in_special" and b == _NEWLINE and _begins_line_word(client, rest):
+            return True
+        elif _begins_close(b, rest):
+            look = "at_slash"
+    return False
 
 
 def _hides_command(client: str, b: int, rest: bytes) -> bool:
-    special = b == _SLASH and rest[:1] == b"*" and _special_at(client, rest[1:3]) != "none"
-    return special and client == MYSQL and _holds_delimiter(client, rest)
+    return b == _SLASH and rest[:1] == b"*" and client == MYSQL and _finds_word(client, _look_in(client, rest), rest)
 
 
 def _beginning(client: str, s: State, b: int, rest: bytes) -> str:
@@ -288,8 +312,7 @@ def _begun(client: str, s: State, b: int, rest: bytes, what: str) -> State:
     if what == "empty_comment":
         return s._replace(fresh=False, drops=False, out=_pass_with_next(b, s.out))
     if what == "block_comment":
-        fresh = s.fresh and client != MARIADB
-        return s._replace(reading=OPENS_COMMENT, fresh=fresh, drops=False, out=_pass_with_next(b, s.out))
+        return s._replace(reading=OPENS_COMMENT, fresh=False, drops=False, out=_pass_with_next(b, s.out))
     if what == "quotes":
         return s._replace(reading=Reading("in_quotes", b), fresh=False, out=_pass_on(b, rest, s.out))
     special, fresh = _special_after(client, s.special, b, rest), s.fresh and _is_space(b)

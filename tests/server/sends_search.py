@@ -2,20 +2,20 @@
 
 `sends.py` is the definition. Many texts go through one process: each is closed so that the next begins like a text of its
 own. A text at which the definition stops, as at a command of the client, is the last; there the client sends more or less.
+
+By itself, with the client on the path and no server: sends_search.py mysql|mariadb TEXTS SEED
 """
 
 import os
 import random
-import re
 import shutil
 import sys
 import tempfile
 import time
 
 import sends
-from client import OPTIONS
 from harness import Tests, same
-from recorder import MARIADB, MYSQL, Client, Recorder
+from recorder import MARIADB, MYSQL, OPTIONS, Client, Recorder
 
 _TEXTS, _SEED = 100_000, 95
 _AT_ONCE = 40
@@ -23,7 +23,8 @@ _AT_ONCE = 40
 _OF_STOPPED = 60
 _PIECES = [
     b"'", b'"', b"`", b"\\", b"\\N", b"\\\n", b"\\\r\n", b"''", b"\\'", b"\\`", b"/*", b"*/", b"/*!", b"/*+", b"/*M!", b"/**/", b"/*/",
-    b"/*a*/", b"/*!99999 ", b"--", b"-- ", b"--\n", b"---", b"--\t", b"#", b"# a\n", b";", b";", b";\n", b"; ", b"\n", b"\n", b"\r\n", b"\r",
+    b"/*a*/", b"/*!99999 ", b"/*! 1 */", b"/*!50000 a\n*/", b"/*+ a(1) */", b"/*M! 1 */", b"/*M!100000 a\n*/",
+    b"--", b"-- ", b"--\n", b"---", b"--\t", b"#", b"# a\n", b";", b";", b";\n", b"; ", b"\n", b"\n", b"\r\n", b"\r",
     b" ", b"\t", b"\v", b"\f", b"a", b"5", b"N", b"d", b"g", b"-", b"/", b"*", b"!", b"+", b"?", b":a", b"@", b".e", b"[",
     b"delimiter", b"\ndelimiter", b"\ndelimiter x\n", b"DELIMITER", b"d\xe9limiter", b"use x", b"use\n", b"quit\n", b"go", b"\ngo\n",
     b"system x\n", b"help", b"syst\xeam", b"\\g", b"\\C gbk", b"\\-", b"$$", b"$a$", b"$",
@@ -63,18 +64,12 @@ def _search(folder: str, client: Client, texts: int, seed: int) -> str:
     return f"{texts} texts, {statements} statements, {runs} processes, {stops} commands"
 
 
-# What the definition leaves open of MySQL's client: see Sends.antt.
-_LEFT_OPEN = re.compile(rb"/\*/.*delimiter", re.DOTALL | re.IGNORECASE)
-
-
 def _texts(name: str, mode: bool, maker: random.Random, most: int) -> tuple:
     """Return texts one after another, and how many they are."""
     made = b""
     for count in range(1, most + 1):
         while True:
             text = b"".join(maker.choice(_PIECES) for _ in range(maker.randint(1, 14)))
-            if name == sends.MYSQL and _LEFT_OPEN.search(text):
-                continue
             closed = _closed(name, mode, text)
             if closed is not None or maker.randrange(_OF_STOPPED) == 0:
                 break
@@ -92,8 +87,8 @@ def _closed(name: str, mode: bool, text: bytes):
         if kind in ("stopped", "at_command"):
             return None
         if kind == "outside" and state.fresh and state.out.gathered == b"" and text.endswith(b"\n"):
-            # At a special comment the definition stops if the word `delimiter` comes anywhere behind it.
-            after = _state(name, mode, text + b"a delimiter")
+            # At a special comment that stays open the definition looks for the word `delimiter` behind.
+            after = _state(name, mode, text + b"*/\ndelimiter")
             return None if after.reading == sends.AT_COMMAND else text
         text += {"in_quotes": bytes([of or 0]), "after_backslash": bytes([of or 0]), "in_comment": b"*/"}.get(kind, b"\n;\n")
     return None

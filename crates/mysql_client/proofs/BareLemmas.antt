@@ -12,10 +12,10 @@ use Rattle.mysql_named_params.specs.Tokens.{Token, bytes_of, text_of, IsTokens, 
 use Rattle.mysql_portable.specs.Statements.{in_first, statements}
 use Rattle.mysql_portable.specs.FirstUnportableInClient.{first_unportable_in_client}
 use Rattle.mysql_client.specs.Outgoing.{Outgoing, is_space, is_empty, is_trimmed, in_front, trimmed, with_statement, pass_on, pass_as_is, send, send_if, end_line}
-use Rattle.mysql_client.specs.ClientState.{Program}
+use Rattle.mysql_client.specs.ClientState.{Program, mariadb}
 use Rattle.mysql_client.specs.Sends.{is_return, nothing_sent, begins_mark, sends}
-use Rattle.mysql_client.specs.SentStatements.{Gathering, plain_out, plain_after, line_out, name_out, gathered_after, gathered_from, sent_from, sent_statements, HoldNoSpecial, BeginWithNoMark, ends_in_backslash}
-use Rattle.mysql_client.specs.PlainStatements.{past_space, bare, if_any, bare_texts, HoldNoComment, has_return}
+use Rattle.mysql_client.specs.SentStatements.{Gathering, no_part, first_gathering, plain_out, plain_after, byte_after, line_out, name_out, gathered_after, gathered_from, sent_from, sent_statements, BeginWithNoMark, ends_in_backslash}
+use Rattle.mysql_client.specs.PlainStatements.{past_space, bare, if_any, bare_texts, HoldNoComment, HoldNoHint, has_return}
 use Rattle.mysql_client.proofs.StepLemmas.{no_return}
 use Rattle.mysql_client.proofs.KeptLemmas.{IsKept, kept_on, kept_as_is, kept_line, nothing_kept, sent_is, gathered_is, owed_is, kept_string, kept_name, kept_plain}
 use Rattle.mysql_client.proofs.SentLemmas as lemmas
@@ -235,7 +235,7 @@ plain_here b ts g e c =
     elim (cases_Bool (b == newline)) [
       | inl n ↦
           let no_end : (b == byte ";") ≡ false = ap (λ x. x == byte ";") (eqb-true b newline n) in
-          let g_is : plain_after b rest g ≡ record { after = false; out = end_line false (send_if g.after g.out) } = rw (r, n) refl in
+          let g_is : plain_after b rest g ≡ record { after = false; part = no_part; out = end_line false (send_if g.after g.out) } = rw (r, n) refl in
           let s_is : statements (Plain b ∷ ts) ≡ in_first (Plain newline) (statements ts) = rw no_end (ap (λ x. in_first (Plain x) (statements ts)) (eqb-true b newline n)) in
           elim (cases_Bool (is_empty (send_if g.after g.out).gathered)) [
             | inl y ↦
@@ -247,7 +247,7 @@ plain_here b ts g e c =
           ]
       | inr n ↦ elim (cases_Bool (b == byte ";")) [
         | inl m ↦
-            let g_is : plain_after b rest g ≡ record { after = true; out = send_if g.after g.out } = rw (r, n, m) refl in
+            let g_is : plain_after b rest g ≡ record { after = true; part = no_part; out = send_if g.after g.out } = rw (r, n, m) refl in
             let s_is : statements (Plain b ∷ ts) ≡ [] ∷ statements ts = rw m refl in
             rw (g_is, s_is) (e', cut_here g.after (statements ts) g.out)
         | inr m ↦
@@ -255,11 +255,11 @@ plain_here b ts g e c =
             elim (cases_Bool (is_space b && g.after)) [
               | inl s ↦
                   let parts = and_parts (is_space b) g.after s in
-                  let g_is : plain_after b rest g ≡ record { after = true; out = pass_as_is b g.out } = rw (r, n, m, s) refl in
+                  let g_is : plain_after b rest g ≡ record { after = true; part = no_part; out = pass_as_is b g.out } = rw (r, n, m, s) refl in
                   let k = kept_as_is b g.out e in
                   rw (g_is, s_is, parts.1) (k.owed, in_front_of true true (Plain b) (statements ts) g.out (pass_as_is b g.out) h (λ first more. spaced_here b first more g.out (pass_as_is b g.out) parts.0 k))
               | inr s ↦
-                  let g_is : plain_after b rest g ≡ record { after = false; out = plain_out b rest (send_if g.after g.out) } = rw (r, n, m, s) refl in
+                  let g_is : plain_after b rest g ≡ record { after = false; part = no_part; out = plain_out b rest (send_if g.after g.out) } = rw (r, n, m, s) refl in
                   let k = kept_plain b rest (send_if g.after g.out) e' in
                   rw (g_is, s_is) (k.owed, in_front_of g.after false (Plain b) (statements ts) g.out (plain_out b rest (send_if g.after g.out)) h (λ first more. added g.after (Plain b) first more g.out (plain_out b rest (send_if g.after g.out)) k))
             ]
@@ -270,54 +270,67 @@ plain_here b ts g e c =
     of_empty [] e = refl
     of_empty (x ∷ xs) e = absurd (true≢false (sym e))
 
-walk_bare : (p : Program) (g : Gathering) (ts : List Token) → g.out.owed ≡ false → HoldNoComment ts → has_return (text_of ts) ≡ false →
+-- a choice of two, in no hint
+outside_of_hints : (x : Bool) (g h : Gathering) → g.part ≡ no_part → h.part ≡ no_part → (cond x g h).part ≡ no_part
+outside_of_hints true g h k m = k
+outside_of_hints false g h k m = m
+
+still_outside : (b : ℕ) (rest : List ℕ) (g : Gathering) → g.part ≡ no_part → (plain_after b rest g).part ≡ no_part
+still_outside b rest g k =
+    outside_of_hints (is_return b rest) _ _ k
+    (outside_of_hints (b == newline) _ _ refl (outside_of_hints (b == byte ";") _ _ refl (outside_of_hints (is_space b && g.after) _ _ refl refl)))
+
+walk_bare : (p : Program) (g : Gathering) (ts : List Token) → g.out.owed ≡ false → g.part ≡ no_part → HoldNoComment ts → HoldNoHint p ts →
+    has_return (text_of ts) ≡ false →
     map past_space (send (gathered_from p g ts).out).sent ≡ shown g.out g.after (statements ts)
-walk_bare p g [] e c r = ended_here g.after g.out
-walk_bare p g (HashComment tail ∷ ts) e c r = absurd (true≢false c.0)
-walk_bare p g (DashComment gap tail ∷ ts) e c r = absurd (true≢false c.0)
-walk_bare p g (BlockComment tail ∷ ts) e c r = absurd (true≢false c.0)
-walk_bare p g (QuotedString q tail ∷ ts) e c r =
+walk_bare p g [] e n c m r = ended_here g.after g.out
+walk_bare p g (HashComment tail ∷ ts) e n c m r = absurd (true≢false c.0)
+walk_bare p g (DashComment gap tail ∷ ts) e n c m r = absurd (true≢false c.0)
+walk_bare p g (BlockComment tail ∷ ts) e n c m r = absurd (true≢false c.0)
+walk_bare p g (QuotedString q tail ∷ ts) e n c m r =
     let parts = returns_split (q ∷ tail) (text_of ts) r in
     let within = (or_parts (q == carriage_return) (has_return tail) parts.0).1 in
     let k = kept_string q tail (text_of ts) (send_if g.after g.out) (still_unowed g.after g.out e) within in
-    walk_bare p (gathered_after p (QuotedString q tail) (text_of ts) g) ts k.owed c.1 parts.1
+    walk_bare p (gathered_after p (QuotedString q tail) (text_of ts) g) ts k.owed refl c.1 m parts.1
     ∙ in_front_of g.after false (QuotedString q tail) (statements ts) g.out (line_out false tail (text_of ts) (pass_on q (tail ++ text_of ts) (send_if g.after g.out))) (first_of ts)
     (λ first more. added g.after (QuotedString q tail) first more g.out _ k)
-walk_bare p g (QuotedIdentifier tail ∷ ts) e c r =
+walk_bare p g (QuotedIdentifier tail ∷ ts) e n c m r =
     let parts = returns_split (backquote ∷ tail) (text_of ts) r in
     let k = kept_string backquote tail (text_of ts) (send_if g.after g.out) (still_unowed g.after g.out e) parts.0 in
-    walk_bare p (gathered_after p (QuotedIdentifier tail) (text_of ts) g) ts k.owed c.1 parts.1
+    walk_bare p (gathered_after p (QuotedIdentifier tail) (text_of ts) g) ts k.owed refl c.1 m parts.1
     ∙ in_front_of g.after false (QuotedIdentifier tail) (statements ts) g.out (line_out false tail (text_of ts) (pass_on backquote (tail ++ text_of ts) (send_if g.after g.out))) (first_of ts)
     (λ first more. added g.after (QuotedIdentifier tail) first more g.out _ k)
-walk_bare p g (Name name ∷ ts) e c r =
+walk_bare p g (Name name ∷ ts) e n c m r =
     let parts = returns_split (colon ∷ name) (text_of ts) r in
     let k = kept_name colon name (text_of ts) (send_if g.after g.out) (still_unowed g.after g.out e) in
-    walk_bare p (gathered_after p (Name name) (text_of ts) g) ts k.owed c.1 parts.1
+    walk_bare p (gathered_after p (Name name) (text_of ts) g) ts k.owed refl c.1 m parts.1
     ∙ in_front_of g.after false (Name name) (statements ts) g.out (name_out name (text_of ts) (pass_on colon (name ++ text_of ts) (send_if g.after g.out))) (first_of ts)
     (λ first more. added g.after (Name name) first more g.out _ k)
-walk_bare p g (Mark ∷ ts) e c r =
+walk_bare p g (Mark ∷ ts) e n c m r =
     let parts = returns_split (question_mark ∷ []) (text_of ts) r in
     let k = kept_on question_mark (text_of ts) (send_if g.after g.out) (still_unowed g.after g.out e) in
-    walk_bare p (gathered_after p Mark (text_of ts) g) ts k.owed c.1 parts.1
+    walk_bare p (gathered_after p Mark (text_of ts) g) ts k.owed refl c.1 m parts.1
     ∙ in_front_of g.after false Mark (statements ts) g.out (pass_on question_mark (text_of ts) (send_if g.after g.out)) (first_of ts)
     (λ first more. added g.after Mark first more g.out _ k)
-walk_bare p g (Plain b ∷ ts) e c r =
+walk_bare p g (Plain b ∷ ts) e n c m r =
     let parts = or_parts (b == carriage_return) (has_return (text_of ts)) r in
     let here = plain_here b ts g e parts.0 in
-    walk_bare p (plain_after b (text_of ts) g) ts here.0 c.1 parts.1 ∙ here.1
+    let g_is : gathered_after p (Plain b) (text_of ts) g ≡ plain_after b (text_of ts) g =
+    ap (λ x. byte_after p x b (text_of ts) g) n ∙ rw m.0 refl in
+    ap (λ x. map past_space (send (gathered_from p x ts).out).sent) g_is
+    ∙ (walk_bare p (plain_after b (text_of ts) g) ts here.0 (still_outside b (text_of ts) g n) c.1 m.1 parts.1 ∙ here.1)
 
 pub bare_sent : (p : Program) (mode : Bool) (text : List ℕ) (ts : List Token) → IsTokens mode text ts →
-    first_unportable_in_client ts ≡ None → HoldNoSpecial ts → BeginWithNoMark ts → ends_in_backslash text ≡ false →
-    HoldNoComment ts → has_return text ≡ false → begins_mark text ≡ false →
+    first_unportable_in_client ts ≡ None → (p ≡ mariadb → BeginWithNoMark ts) → ends_in_backslash text ≡ false →
+    HoldNoComment ts → HoldNoHint p ts → has_return text ≡ false → begins_mark text ≡ false →
     map past_space (sends p mode text).statements ≡ bare_texts (statements ts)
-bare_sent p mode text ts h e s m l c r u =
-    let start : Gathering = record { after = false; out = nothing_sent } in
-    let whole = lemmas.sent p mode text ts h e s m l in
+bare_sent p mode text ts h e m l c s r u =
+    let whole = lemmas.sent p mode text ts h e m l in
     let no_mark : begins_mark (text_of ts) ≡ false = ap begins_mark h.text ∙ u in
     let all : sent_statements p ts ≡ sent_from p ts = rw no_mark refl in
     ap (λ x. map past_space x.statements) whole
     ∙ (ap (map past_space) all
-    ∙ (walk_bare p start ts refl c (ap has_return h.text ∙ r) ∙ front (first_of ts)))
+    ∙ (walk_bare p first_gathering ts refl refl c s (ap has_return h.text ∙ r) ∙ front (first_of ts)))
   where
     front : HasFirst (statements ts) → shown nothing_sent false (statements ts) ≡ bare_texts (statements ts)
     front h = ap (shown nothing_sent false) h.is ∙ ap bare_texts (sym h.is)

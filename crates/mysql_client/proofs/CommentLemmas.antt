@@ -6,15 +6,11 @@ use Rattle.std.proofs.lemmas.Bool.{cases_Bool, and_parts, or_parts, eqb-true}
 use Rattle.mysql_named_params.specs.Bytes.{asterisk, carriage_return, exclamation_mark, newline, plus, slash, is_extension, begins}
 use Rattle.mysql_portable.specs.Client.{begins_opener, begins_end, holds_opener}
 use Rattle.mysql_client.specs.Outgoing.{Outgoing}
-use Rattle.mysql_client.specs.ClientState.{Program, begins_delimiter, is_mariadb, no_special, only_read, Reading, in_comment, State, is_none, special_at, begins_block, begins_close, opened, special_after}
+use Rattle.mysql_client.specs.ClientState.{Program, begins_delimiter, is_mariadb, no_special, only_read, in_comment, is_none, special_at, begins_block, begins_close, opened, special_after}
 use Rattle.mysql_client.specs.Sends.{step, is_return}
 use Rattle.mysql_client.specs.SentStatements.{comment_byte, comment_out}
-use Rattle.mysql_client.proofs.StepLemmas.{before, differs, HasNoZero, no_zero_after, no_zero_line}
+use Rattle.mysql_client.proofs.StepLemmas.{in_block, before, differs, HasNoZero, no_zero_after, no_zero_line}
 use Rattle.mysql_client.proofs.EndLemmas.{Ends, closed_end, open_end, UpToClose, begins_up_to_close}
-
--- the state in a comment
-abbrev pub in_block : Reading → Bool → Bool → Outgoing → State
-in_block r f d o = record { reading = r; special = no_special; fresh = f; drops = d; out = o }
 
 -- ---- no special comment opens
 
@@ -61,7 +57,7 @@ no_opener_after b rest h e =
     sym (ap (λ c. not c && holds_opener rest) e) ∙ p.1
 
 -- a byte with which no other comment begins or ends
-byte_in_block : (p : Program) (mode f d : Bool) (b : ℕ) (rest : List ℕ) (o : Outgoing) → HasNoZero (b ∷ rest) →
+pub byte_in_block : (p : Program) (mode f d : Bool) (b : ℕ) (rest : List ℕ) (o : Outgoing) → HasNoZero (b ∷ rest) →
     begins_close b rest ≡ false → begins_block p b rest ≡ false → begins_opener (b ∷ rest) ≡ false →
     (d' : Bool) × (step p mode (in_block in_comment f d o) b rest ≡ in_block in_comment f d' (comment_byte p b rest o))
 byte_in_block p mode f d b rest o z c k h =

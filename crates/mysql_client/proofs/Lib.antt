@@ -5,7 +5,11 @@ pub mod TextLemmas
 pub mod CommentLemmas
 pub mod PlainStepLemmas
 pub mod PlainFactLemmas
+pub mod ClearLemmas
+pub mod QuietLemmas
+pub mod HintLemmas
 pub mod TokenLemmas
+pub mod LookLemmas
 pub mod SentLemmas
 pub mod KeptLemmas
 pub mod BareLemmas

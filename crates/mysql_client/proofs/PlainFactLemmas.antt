@@ -2,9 +2,9 @@
 use Rattle.std.specs.Prelude.{Bool, not, codes}
 use Rattle.std.proofs.Common.{◌≡◌, ℕ, true, false, cond, ◌==◌, ◌&&◌, ◌||◌, List, [], ◌∷◌, Option, Some, None, refl, sym, ap, ◌∙◌, inl, inr, arith, true≢false}
 use Rattle.std.specs.Str.{byte}
-use Rattle.std.proofs.lemmas.Bool.{cases_Bool, and_parts, or_parts, eqb-true}
+use Rattle.std.proofs.lemmas.Bool.{cases_Bool, and_parts, or_parts, not-false, eqb-true}
 use Rattle.std.proofs.lemmas.Bool.Decides.{nat_tests}
-use Rattle.mysql_named_params.specs.Bytes.{asterisk, backquote, bracket, dash, dollar, hash, newline, question_mark, slash, space, colon, is_string_quote, is_white_space, begins}
+use Rattle.mysql_named_params.specs.Bytes.{asterisk, backquote, bracket, dash, dollar, hash, newline, question_mark, slash, space, colon, is_extension, is_string_quote, is_white_space, begins}
 use Rattle.mysql_named_params.specs.Tokens.{Token, IsToken, Plain, Mark}
 use Rattle.mysql_named_params.specs.TokensOf.{dash_comment, block_comment, name_at}
 use Rattle.mysql_named_params.proofs.PlainLemmas.{plain_none}
@@ -74,6 +74,10 @@ plain_byte mode b rest h =
           | inr q ↦ q
         ]
 
+-- after a plain `/` before `*`: the byte of a special comment's sign
+pub plain_extension : (mode : Bool) (text : List ℕ) → IsToken mode (Plain slash) (asterisk ∷ text) → begins is_extension text ≡ true
+plain_extension mode text h = not-false _ (some_not (not (begins is_extension text)) _ _ (plain_none mode slash (asterisk ∷ text) h)).0
+
 -- ---- dashes
 
 space_keeps_no : (g : ℕ) → keeps_dashes g ≡ true → is_space g ≡ false
@@ -104,7 +108,7 @@ no_gap c (g ∷ gs) d n m =
 
 -- ---- tags
 
-tag_ends : (text : List ℕ) → begins_tag text ≡ false → ends_tag text ≡ false
+pub tag_ends : (text : List ℕ) → begins_tag text ≡ false → ends_tag text ≡ false
 tag_ends [] h = refl
 tag_ends (b ∷ bs) h =
     let p = or_parts (b == dollar) _ h in

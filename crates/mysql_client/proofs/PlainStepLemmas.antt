@@ -11,7 +11,7 @@ use Rattle.mysql_portable.specs.FoundInClient.{begins_word, begins_no_word, begi
 use Rattle.mysql_client.specs.Outgoing.{Outgoing, is_space, is_empty, pass_as_is, send, send_if, end_line}
 use Rattle.mysql_client.specs.ClientState.{Program, is_mariadb, no_special, outside, is_own_word, hides_command, begins_slash_star, begins_line_comment, begins_empty_comment, begins_block, begins_close, ends_tag, is_none, special_at, special_after}
 use Rattle.mysql_client.specs.Sends.{step, is_return, follows_end, read_outside}
-use Rattle.mysql_client.specs.SentStatements.{plain_out, plain_after}
+use Rattle.mysql_client.specs.SentStatements.{no_part, plain_out, plain_after}
 use Rattle.mysql_client.proofs.StepLemmas.{place, base, Fits, Arrived, going, HasNoZero, line_goes}
 
 -- what a client finds at a plain byte of a text in which nothing is found
@@ -28,7 +28,7 @@ pub record IsPassed (p : Program) (fresh : Bool) (b : ℕ) (rest : List ℕ) : T
 abbrev pub fresh_after : Bool → ℕ → List ℕ → Bool
 fresh_after fresh b rest = cond (b == byte "\\" || begins_empty_comment b rest) false (is_space b && fresh)
 
-no_block : (p : Program) (b : ℕ) (rest : List ℕ) → begins_slash_star (b ∷ rest) ≡ false → begins_block p b rest ≡ false
+pub no_block : (p : Program) (b : ℕ) (rest : List ℕ) → begins_slash_star (b ∷ rest) ≡ false → begins_block p b rest ≡ false
 no_block p b rest h = go (b == slash) (begins (λ c. c == asterisk) rest) h
   where
     go : (x y : Bool) → (x && y) ≡ false → (x && (y && is_none (special_at p (drop 1 rest)))) ≡ false
@@ -36,7 +36,7 @@ no_block p b rest h = go (b == slash) (begins (λ c. c == asterisk) rest) h
     go true false h = refl
     go false y h = refl
 
-stays : (p : Program) (b : ℕ) (rest : List ℕ) → begins_slash_star (b ∷ rest) ≡ false → special_after p no_special b rest ≡ no_special
+pub stays : (p : Program) (b : ℕ) (rest : List ℕ) → begins_slash_star (b ∷ rest) ≡ false → special_after p no_special b rest ≡ no_special
 stays p b rest h = rw h (go (begins_close b rest))
   where
     go : (x : Bool) → cond x no_special no_special ≡ no_special
@@ -68,7 +68,7 @@ place_step p mode true f b rest o r n w s =
     go true e = absurd (true≢false e)
     go false e = refl
 
-space_is_no_word : (b : ℕ) → is_space b ≡ true → nat_le b space ≡ true
+pub space_is_no_word : (b : ℕ) → is_space b ≡ true → nat_le b space ≡ true
 space_is_no_word b h = grind (arith, nat_tests)
 
 -- white space keeps the flags
@@ -93,18 +93,18 @@ fresh_kept st f b rest k h = go (b == byte "\\" || begins_empty_comment b rest) 
 
 newline_of : (p : Program) (mode st ln a f : Bool) (rest : List ℕ) (o : Outgoing) → Fits st ln f a → HasNoZero rest →
     begins_word (codes "delimiter") rest ≡ false →
-    Arrived (step p mode (base (place a) f o) newline rest) rest st true (record { after = false; out = end_line false (send_if a o) })
+    Arrived (step p mode (base (place a) f o) newline rest) rest st true (record { after = false; part = no_part; out = end_line false (send_if a o) })
 newline_of p mode st ln a f rest o k z w =
-    going f (go a) (record { fresh_is = k.fresh_is; line_is = λ x. refl; after_is = λ x. absurd (true≢false (sym x)) })
+    going f (go a) refl (record { fresh_is = k.fresh_is; line_is = λ x. refl; after_is = λ x. absurd (true≢false (sym x)) })
   where
     go : (a : Bool) → step p mode (base (place a) f o) newline rest ≡ base outside f (end_line false (send_if a o))
     go false = line_goes p rest (base outside f (end_line false o)) z w
     go true = line_goes p rest (base outside f (end_line false (send o))) z w
 
 end_of : (p : Program) (mode st ln a f : Bool) (rest : List ℕ) (o : Outgoing) →
-    Arrived (step p mode (base (place a) f o) (byte ";") rest) rest true true (record { after = true; out = send_if a o })
+    Arrived (step p mode (base (place a) f o) (byte ";") rest) rest true true (record { after = true; part = no_part; out = send_if a o })
 end_of p mode st ln a f rest o =
-    going true (go a) (record { fresh_is = λ x. refl; line_is = λ x. refl; after_is = λ x. (refl, refl) })
+    going true (go a) refl (record { fresh_is = λ x. refl; line_is = λ x. refl; after_is = λ x. (refl, refl) })
   where
     go : (a : Bool) → step p mode (base (place a) f o) (byte ";") rest ≡ base (place true) true (send_if a o)
     go false = refl
@@ -112,13 +112,13 @@ end_of p mode st ln a f rest o =
 
 space_of : (p : Program) (mode st ln a f : Bool) (b : ℕ) (rest : List ℕ) (o : Outgoing) → Fits st ln f a → is_return b rest ≡ false →
     (b == newline) ≡ false → (is_space b && a) ≡ true →
-    Arrived (step p mode (base (place a) f o) b rest) rest (begins_statement st (Plain b)) (begins_line ln (Plain b)) (record { after = true; out = pass_as_is b o })
+    Arrived (step p mode (base (place a) f o) b rest) rest (begins_statement st (Plain b)) (begins_line ln (Plain b)) (record { after = true; part = no_part; out = pass_as_is b o })
 space_of p mode st ln false f b rest o k r n s = absurd (true≢false (sym (and_parts (is_space b) false s).1))
 space_of p mode st ln true f b rest o k r n s =
     let space_is = (and_parts (is_space b) true s).0 in
     let flags = k.after_is refl in
     let st' = statement_kept st b space_is (k.fresh_is flags.0) in
-    going f (rw (r, n, space_is) refl) (record {
+    going f (rw (r, n, space_is) refl) refl (record {
       fresh_is = λ x. st';
       line_is = λ x. line_kept st ln b k.line_is st';
       after_is = λ x. (flags.0, line_kept st ln b k.line_is st');
@@ -127,34 +127,34 @@ space_of p mode st ln true f b rest o k r n s =
 pub plain_of : (p : Program) (mode st ln a f : Bool) (b : ℕ) (rest : List ℕ) (o : Outgoing) → Fits st ln f a →
     IsPassed p f b rest → HasNoZero rest → (begins_line ln (Plain b) ≡ true → begins_word (codes "delimiter") rest ≡ false) →
     Arrived (step p mode (base (place a) f o) b rest) rest (begins_statement st (Plain b)) (begins_line ln (Plain b))
-    (plain_after b rest (record { after = a; out = o }))
+    (plain_after b rest (record { after = a; part = no_part; out = o }))
 plain_of p mode st ln a f b rest o k h z w =
     elim (cases_Bool (is_return b rest)) [
       | inl r ↦
           let cr : b ≡ carriage_return = eqb-true b carriage_return (and_parts (b == carriage_return) (begins (λ c. c == newline) rest) r).0 in
           let st_is : begins_statement st (Plain b) ≡ st = ap (λ x. begins_statement st (Plain x)) cr in
           let ln_is : begins_line ln (Plain b) ≡ ln = ap (λ x. begins_line ln (Plain x)) cr in
-          rw (r, st_is, ln_is) (going f refl k)
+          rw (r, st_is, ln_is) (going f refl refl k)
       | inr r ↦ elim (cases_Bool (b == newline)) [
         | inl n ↦
             let nl : b ≡ newline = eqb-true b newline n in
             let w' : begins_word (codes "delimiter") rest ≡ false = w (ap (λ x. begins_line ln (Plain x)) nl) in
-            subst (λ x. Arrived (step p mode (base (place a) f o) x rest) rest (begins_statement st (Plain x)) (begins_line ln (Plain x)) (plain_after x rest (record { after = a; out = o }))) (sym nl)
+            subst (λ x. Arrived (step p mode (base (place a) f o) x rest) rest (begins_statement st (Plain x)) (begins_line ln (Plain x)) (plain_after x rest (record { after = a; part = no_part; out = o }))) (sym nl)
             (newline_of p mode st ln a f rest o k z w')
         | inr n ↦ elim (cases_Bool (b == byte ";")) [
           | inl e ↦
-              subst (λ x. Arrived (step p mode (base (place a) f o) x rest) rest (begins_statement st (Plain x)) (begins_line ln (Plain x)) (plain_after x rest (record { after = a; out = o }))) (sym (eqb-true b (byte ";") e))
+              subst (λ x. Arrived (step p mode (base (place a) f o) x rest) rest (begins_statement st (Plain x)) (begins_line ln (Plain x)) (plain_after x rest (record { after = a; part = no_part; out = o }))) (sym (eqb-true b (byte ";") e))
               (end_of p mode st ln a f rest o)
           | inr e ↦ elim (cases_Bool (is_space b && a)) [
             | inl s ↦
-                let g_is : plain_after b rest (record { after = a; out = o }) ≡ record { after = true; out = pass_as_is b o } = rw (r, n, e, s) refl in
+                let g_is : plain_after b rest (record { after = a; part = no_part; out = o }) ≡ record { after = true; part = no_part; out = pass_as_is b o } = rw (r, n, e, s) refl in
                 subst (Arrived (step p mode (base (place a) f o) b rest) rest (begins_statement st (Plain b)) (begins_line ln (Plain b))) (sym g_is)
                 (space_of p mode st ln a f b rest o k r n s)
             | inr s ↦
-                let g_is : plain_after b rest (record { after = a; out = o }) ≡ record { after = false; out = plain_out b rest (send_if a o) } = rw (r, n, e, s) refl in
+                let g_is : plain_after b rest (record { after = a; part = no_part; out = o }) ≡ record { after = false; part = no_part; out = plain_out b rest (send_if a o) } = rw (r, n, e, s) refl in
                 let s_is = place_step p mode a f b rest o r n h.no_follow s ∙ outside_step p f b rest (send_if a o) h e in
                 subst (Arrived (step p mode (base (place a) f o) b rest) rest (begins_statement st (Plain b)) (begins_line ln (Plain b))) (sym g_is)
-                (going (fresh_after f b rest) s_is (record {
+                (going (fresh_after f b rest) s_is refl (record {
                   fresh_is = fresh_kept st f b rest k.fresh_is;
                   line_is = line_kept st ln b k.line_is;
                   after_is = λ x. absurd (true≢false (sym x));

@@ -1,84 +1,24 @@
 -- What a client sends of a text in which nothing is found.
-use Rattle.std.specs.Prelude.{Bool, not, codes, ⊤, nat_le}
-use Rattle.std.proofs.Common.{◌≡◌, ◌⊎◌, ℕ, ◌+◌, true, false, cond, ◌==◌, ◌&&◌, List, [], ◌∷◌, ◌++◌, length, Option, Some, None, drop, refl, sym, ap, ◌∙◌, subst, inl, inr, true≢false}
-use Rattle.std.specs.List.{list_any}
-use Rattle.std.proofs.lemmas.Bool.{cases_Bool, and_parts, or_from, not-false, eqb-true}
-use Rattle.std.proofs.lemmas.List.Folds.{list_any-append}
-use Rattle.mysql_named_params.specs.Bytes.{backquote, colon, dash, hash, question_mark, slash, single_quote, double_quote, begins}
+use Rattle.std.specs.Prelude.{Bool, codes, nat_le}
+use Rattle.std.proofs.Common.{◌≡◌, ◌⊎◌, ℕ, true, false, ◌==◌, ◌&&◌, List, [], ◌∷◌, ◌++◌, None, drop, refl, sym, ap, ◌∙◌, subst, inl, inr, true≢false}
+use Rattle.std.proofs.lemmas.Bool.{cases_Bool, and_parts, eqb-true}
+use Rattle.mysql_named_params.specs.Bytes.{backquote, colon, dash, hash, newline, question_mark, slash, single_quote, double_quote, begins}
 use Rattle.mysql_named_params.specs.Tokens.{Token, bytes_of, text_of, IsTokens, AreTokensBefore, QuotedString, QuotedIdentifier, HashComment, DashComment, BlockComment, Name, Mark, Plain}
-use Rattle.mysql_portable.specs.Portable.{is_read_alike, joins_number}
-use Rattle.mysql_portable.specs.FoundInClient.{begins_word, begins_statement, begins_line, found_in_token, found_in_client}
-use Rattle.mysql_portable.specs.FirstUnportable.{construct_at}
-use Rattle.mysql_portable.specs.FirstUnportableInClient.{found_or, found_at, first_in_client_from, first_unportable_in_client}
-use Rattle.mysql_portable.specs.declared.portable.Construct.{Construct}
-use Rattle.mysql_portable.specs.declared.portable.Unportable.{Unportable}
+use Rattle.mysql_portable.specs.Quiet.{is_quiet}
+use Rattle.mysql_portable.specs.FoundInClient.{begins_word, begins_no_word, begins_statement, begins_line}
+use Rattle.mysql_portable.specs.FirstUnportableInClient.{first_unportable_in_client}
 use Rattle.mysql_portable.proofs.FrontLemmas.{quote_is}
 use Rattle.mysql_client.specs.Outgoing.{Outgoing, send}
-use Rattle.mysql_client.specs.ClientState.{Program, outside, State}
-use Rattle.mysql_client.specs.Sends.{Sending, goes_on, steps, begin, sent_at_end, nothing_sent, sends_lines, begins_mark, sends}
-use Rattle.mysql_client.specs.SentStatements.{Gathering, gathered_after, gathered_from, sent_from, sent_statements, begins_no_special, HoldNoSpecial, BeginWithNoMarkFrom, BeginWithNoMark, ends_in_backslash}
-use Rattle.mysql_client.proofs.StepLemmas.{place, base, before, steps_then, sent_over, Fits, Arrived, going, over, HasNoZero, line_goes}
+use Rattle.mysql_client.specs.ClientState.{Program, mysql, mariadb, Special, closes_comment, outside, State, past, finds_word, begins_close}
+use Rattle.mysql_client.specs.Sends.{Sending, step, steps, begin, sent_at_end, nothing_sent, sends_lines, begins_mark, sends}
+use Rattle.mysql_client.specs.SentStatements.{Gathering, no_part, first_gathering, opens_hint, byte_after, gathered_after, gathered_from, sent_from, sent_statements, is_mark, BeginWithNoMarkFrom, BeginWithNoMark, ends_in_backslash}
+use Rattle.mysql_client.proofs.StepLemmas.{place, base, in_special_comment, in_block, InHint, before, steps_then, sent_over, Fits, Arrived, going, special_goes, hint_goes, hint_ends, over, HasNoZero, no_zero_after, and_no, line_goes}
 use Rattle.mysql_client.proofs.EndLemmas.{last_after}
-use Rattle.mysql_client.proofs.PlainFactLemmas.{found_not, word_not, delimiter_not}
-use Rattle.mysql_client.proofs.TokenLemmas.{token_of}
-
--- ---- what is found
-
-nothing_at : (found : Option Construct) (at : ℕ) (later : Option Unportable) → found_or found at later ≡ None →
-    (later ≡ None) × (found ≡ None)
-nothing_at None at later e = (e, refl)
-nothing_at (Some c) at later e = cc
-
-nothing_in : (st ln : Bool) (t : Token) (rest : List ℕ) → found_at st ln t rest ≡ None →
-    (is_read_alike t rest ≡ true) × (found_in_client st ln t rest ≡ None)
-nothing_in st ln t rest e = go (is_read_alike t rest) (joins_number t rest) e
-  where
-    go : (x y : Bool) → cond (x && not y) (found_in_client st ln t rest) (Some (construct_at t rest)) ≡ None → (x ≡ true) × (found_in_client st ln t rest ≡ None)
-    go true false e = (refl, e)
-    go true true e = cc
-    go false y e = cc
-
-zero_not : (st ln : Bool) (t : Token) (rest : List ℕ) → found_in_client st ln t rest ≡ None →
-    (list_any (λ b. b == 0) (bytes_of t) ≡ false) × (found_in_token st ln t rest ≡ None)
-zero_not st ln t rest h = found_not (list_any (λ b. b == 0) (bytes_of t)) _ _ h
-
--- nothing is found in the tokens
-abbrev pub IsClear : Bool → Bool → List Token → Type 0
-IsClear st ln [] = ⊤
-IsClear st ln (t ∷ ts) =
-    (is_read_alike t (text_of ts) ≡ true) × (found_in_client st ln t (text_of ts) ≡ None) × IsClear (begins_statement st t) (begins_line ln t) ts
-
-clear_of : (ts : List Token) (at : ℕ) (st ln : Bool) → first_in_client_from at st ln ts ≡ None → IsClear st ln ts
-clear_of [] at st ln e = tt
-clear_of (t ∷ ts) at st ln e =
-    let both = nothing_at (found_at st ln t (text_of ts)) at (first_in_client_from (at + length (bytes_of t)) (begins_statement st t) (begins_line ln t) ts) e in
-    let here = nothing_in st ln t (text_of ts) both.1 in
-    (here.0, here.1, clear_of ts (at + length (bytes_of t)) (begins_statement st t) (begins_line ln t) both.0)
-
--- no byte is 0
-no_zero : (st ln : Bool) (ts : List Token) → IsClear st ln ts → HasNoZero (text_of ts)
-no_zero st ln [] e = refl
-no_zero st ln (t ∷ ts) e =
-    list_any-append (λ b. b == 0) (bytes_of t) (text_of ts)
-    ∙ or_from (list_any (λ b. b == 0) (bytes_of t)) (list_any (λ b. b == 0) (text_of ts)) (zero_not st ln t (text_of ts) e.1).0 (no_zero (begins_statement st t) (begins_line ln t) ts e.2)
-
--- no line begins with the word `delimiter`
-no_word : (mode st : Bool) (ts : List Token) → AreTokensBefore mode [] ts → IsClear st true ts →
-    begins_word (codes "delimiter") (text_of ts) ≡ false
-no_word mode st [] h e = refl
-no_word mode st (QuotedString q tail ∷ ts) h e = go (quote_is q h.0.0)
-  where
-    go : (q ≡ single_quote) ⊎ (q ≡ double_quote) → begins_word (codes "delimiter") (q ∷ (tail ++ text_of ts)) ≡ false
-    go (inl x) = ap (λ y. begins_word (codes "delimiter") (y ∷ (tail ++ text_of ts))) x
-    go (inr x) = ap (λ y. begins_word (codes "delimiter") (y ∷ (tail ++ text_of ts))) x
-no_word mode st (QuotedIdentifier tail ∷ ts) h e = refl
-no_word mode st (HashComment tail ∷ ts) h e = refl
-no_word mode st (DashComment gap tail ∷ ts) h e = refl
-no_word mode st (BlockComment tail ∷ ts) h e = refl
-no_word mode st (Name name ∷ ts) h e = refl
-no_word mode st (Mark ∷ ts) h e = refl
-no_word mode st (Plain b ∷ ts) h e =
-    delimiter_not st b (text_of ts) (word_not st true b (text_of ts) (zero_not st true (Plain b) (text_of ts) e.1).1)
+use Rattle.mysql_client.proofs.ClearLemmas.{IsClear, clear_of, no_zero, no_word}
+use Rattle.mysql_client.proofs.QuietLemmas.{quiet_byte, quiet_token, quiet_step}
+use Rattle.mysql_client.proofs.HintLemmas.{hint_byte, slash_token}
+use Rattle.mysql_client.proofs.TokenLemmas.{fits_no_statement, fits_none, token_of}
+use Rattle.mysql_client.proofs.LookLemmas.{nothing_ahead}
 
 -- ---- the walk
 
@@ -93,53 +33,110 @@ sent_at_place : (a f : Bool) (o : Outgoing) → finish (base (place a) f o) ≡ 
 sent_at_place true f o = refl
 sent_at_place false f o = refl
 
+-- a token has a byte
+some_bytes : (t : Token) (rest : List ℕ) → bytes_of t ++ rest ≡ [] → ⊥
+some_bytes (QuotedString q tail) rest e = cc
+some_bytes (QuotedIdentifier tail) rest e = cc
+some_bytes (HashComment tail) rest e = cc
+some_bytes (DashComment gap tail) rest e = cc
+some_bytes (BlockComment tail) rest e = cc
+some_bytes (Name name) rest e = cc
+some_bytes Mark rest e = cc
+some_bytes (Plain b) rest e = cc
+
+-- no line begins with the word `delimiter` after the token
+word_after : (mode st ln : Bool) (t : Token) (ts : List Token) → AreTokensBefore mode [] (t ∷ ts) → IsClear st ln (t ∷ ts) →
+    begins_line ln t ≡ true → begins_word (codes "delimiter") (text_of ts) ≡ false
+word_after mode st ln t ts h c x = no_word mode (begins_statement st t) ts h.1 (subst (λ y. IsClear (begins_statement st t) y ts) x c.2)
+
+-- no statement begins after a byte of a special comment
+no_statement : (st : Bool) (b : ℕ) (rest : List ℕ) → st ≡ false → is_quiet (b ∷ rest) ≡ true → begins_statement st (Plain b) ≡ false
+no_statement st b rest k q = rw ((quiet_byte b rest q).no_end, k) (and_no (begins_no_word b))
+
+-- a byte of a special comment that is read like other text
+special_byte : (p : Program) (mode : Bool) (sp : Special) (st ln : Bool) (b : ℕ) (rest : List ℕ) (o : Outgoing) →
+    is_quiet (b ∷ rest) ≡ true → HasNoZero (b ∷ rest) → st ≡ false → (begins_line ln (Plain b) ≡ true → begins_word (codes "delimiter") rest ≡ false) →
+    Arrived (step p mode (in_special_comment sp o) b rest) rest (begins_statement st (Plain b)) (begins_line ln (Plain b))
+    (byte_after p no_part b rest (record { after = false; part = no_part; out = o }))
+special_byte p mode sp st ln b rest o q z k w =
+    let byte_is = quiet_byte b rest q in
+    let none : opens_hint p b rest ≡ false = rw byte_is.no_slash refl in
+    let line : (b == newline) ≡ true → begins_line ln (Plain b) ≡ true = λ n. ap (λ x. begins_line ln (Plain x)) (eqb-true b newline n) in
+    let next = quiet_step p mode sp b rest o byte_is (no_zero_after b rest z) (λ n. w (line n)) in
+    let later = no_statement st b rest k q in
+    rw none (elim (cases_Bool (begins_close b rest)) [
+      | inl c ↦
+          subst (Arrived (step p mode (in_special_comment sp o) b rest) rest (begins_statement st (Plain b)) (begins_line ln (Plain b))) (sym next.gathered_is)
+          (going false (next.step_is ∙ ap (λ x. in_special_comment x next.out) (next.closed c)) refl (fits_no_statement (begins_statement st (Plain b)) (begins_line ln (Plain b)) later))
+      | inr n ↦ special_goes next.after next.out next.step_is next.gathered_is later (byte_is.more n)
+    ])
+
 -- no tokens are left
-none_left : (ts : List Token) → text_of ts ≡ [] → ts ≡ []
-none_left [] e = refl
-none_left (QuotedString q tail ∷ ts) e = cc
-none_left (QuotedIdentifier tail ∷ ts) e = cc
-none_left (HashComment tail ∷ ts) e = cc
-none_left (DashComment gap tail ∷ ts) e = cc
-none_left (BlockComment tail ∷ ts) e = cc
-none_left (Name name ∷ ts) e = cc
-none_left (Mark ∷ ts) e = cc
-none_left (Plain b ∷ ts) e = cc
+none_sent : (s : State) (st ln : Bool) (g : Gathering) → Arrived s [] st ln g → finish s ≡ all_sent g.out
+none_sent s st ln g (going f e n k) = ap finish e ∙ sent_at_place g.after f g.out
+none_sent s st ln g (special_goes sp o e n k q) = absurd (true≢false (sym q))
+none_sent s st ln g (hint_goes r d o e n k i q) = absurd (true≢false (sym q))
+none_sent s st ln g (hint_ends d o text e n k x apart) = cc
+none_sent s st ln g (over nil goes e) = sent_over s.reading s.out goes ∙ ap all_sent e
 
-sent_at_over : (p : Program) (mode : Bool) (s : State) (g : Gathering) (ts : List Token) → ts ≡ [] → goes_on s.reading ≡ true →
-    s.out ≡ g.out → finish (steps p mode s (text_of ts)) ≡ all_sent (gathered_from p g ts).out
-sent_at_over p mode s g ts nil goes e =
-    subst (λ x. finish (steps p mode s (text_of x)) ≡ all_sent (gathered_from p g x).out) (sym nil)
-    (sent_over s.reading s.out goes ∙ ap all_sent e)
+-- a token of a text in which nothing is found
+token_sent : (p : Program) (mode st ln : Bool) (s : State) (g : Gathering) (t : Token) (ts : List Token) →
+    Arrived s (bytes_of t ++ text_of ts) st ln g → AreTokensBefore mode [] (t ∷ ts) → IsClear st ln (t ∷ ts) → (p ≡ mariadb → (is_mark t && st) ≡ false) →
+    ends_in_backslash (bytes_of t ++ text_of ts) ≡ false →
+    Arrived (before p mode (text_of ts) s (bytes_of t)) (text_of ts) (begins_statement st t) (begins_line ln t) (gathered_after p t (text_of ts) g)
+token_sent p mode st ln s g t ts (going f e n k) h c m l =
+    let front : f ≡ true → ln ≡ true = λ x. k.line_is (k.fresh_is x) in
+    let look : f ≡ true → finds_word mysql past (text_of (t ∷ ts)) ≡ false =
+    λ x. nothing_ahead mode st (t ∷ ts) h (subst (λ y. IsClear st y (t ∷ ts)) (front x) c) in
+    subst (λ x. Arrived (before p mode (text_of ts) x (bytes_of t)) (text_of ts) (begins_statement st t) (begins_line ln t) (gathered_after p t (text_of ts) g)) (sym e)
+    (subst (λ x. Arrived (before p mode (text_of ts) (base (place g.after) f g.out) (bytes_of t)) (text_of ts) (begins_statement st t) (begins_line ln t) (gathered_after p t (text_of ts) (record { after = g.after; part = x; out = g.out }))) (sym n)
+    (token_of p mode st ln g.after f t (text_of ts) g.out k h.0 c.0 c.1 m (no_zero st ln (t ∷ ts) c) l (word_after mode st ln t ts h c) look))
+token_sent p mode st ln s g t ts (special_goes sp o e n k q) h c m l =
+    let plain = quiet_token mode t (text_of ts) h.0 q in
+    let byte_is = subst (λ x. is_quiet (bytes_of x ++ text_of ts) ≡ true) plain.1 q in
+    let zero = subst (λ x. HasNoZero (bytes_of x ++ text_of ts)) plain.1 (no_zero st ln (t ∷ ts) c) in
+    let word = subst (λ x. begins_line ln x ≡ true → begins_word (codes "delimiter") (text_of ts) ≡ false) plain.1 (word_after mode st ln t ts h c) in
+    subst (λ x. Arrived (before p mode (text_of ts) s (bytes_of x)) (text_of ts) (begins_statement st x) (begins_line ln x) (gathered_after p x (text_of ts) g)) (sym plain.1)
+    (subst (λ x. Arrived (step p mode x plain.0 (text_of ts)) (text_of ts) (begins_statement st (Plain plain.0)) (begins_line ln (Plain plain.0)) (gathered_after p (Plain plain.0) (text_of ts) g)) (sym e)
+    (subst (λ x. Arrived (step p mode (in_special_comment sp o) plain.0 (text_of ts)) (text_of ts) (begins_statement st (Plain plain.0)) (begins_line ln (Plain plain.0)) (gathered_after p (Plain plain.0) (text_of ts) x)) (sym n)
+    (special_byte p mode sp st ln plain.0 (text_of ts) o byte_is zero k word)))
+token_sent p mode st ln s g t ts (hint_goes r d o e n k i q) h c m l =
+    let plain = quiet_token mode t (text_of ts) h.0 q in
+    let byte_is = subst (λ x. is_quiet (bytes_of x ++ text_of ts) ≡ true) plain.1 q in
+    let here = subst (λ x. InHint r (bytes_of x ++ text_of ts)) plain.1 i in
+    let zero = subst (λ x. HasNoZero (bytes_of x ++ text_of ts)) plain.1 (no_zero st ln (t ∷ ts) c) in
+    subst (λ x. Arrived (before p mode (text_of ts) s (bytes_of x)) (text_of ts) (begins_statement st x) (begins_line ln x) (gathered_after p x (text_of ts) g)) (sym plain.1)
+    (subst (λ x. Arrived (step p mode x plain.0 (text_of ts)) (text_of ts) (begins_statement st (Plain plain.0)) (begins_line ln (Plain plain.0)) (gathered_after p (Plain plain.0) (text_of ts) g)) (sym e)
+    (subst (λ x. Arrived (step p mode (in_block r false d o) plain.0 (text_of ts)) (text_of ts) (begins_statement st (Plain plain.0)) (begins_line ln (Plain plain.0)) (gathered_after p (Plain plain.0) (text_of ts) x)) (sym n)
+    (hint_byte p mode r d (begins_statement st (Plain plain.0)) (begins_line ln (Plain plain.0)) plain.0 (text_of ts) o here byte_is zero (no_statement st plain.0 (text_of ts) k byte_is))))
+token_sent p mode st ln s g t ts (hint_ends d o text e n k x apart) h c m l =
+    let plain = slash_token mode t (text_of ts) text h.0 x apart in
+    subst (λ x. Arrived (before p mode (text_of ts) s (bytes_of x)) (text_of ts) (begins_statement st x) (begins_line ln x) (gathered_after p x (text_of ts) g)) (sym plain.0)
+    (subst (λ x. Arrived (step p mode x slash (text_of ts)) (text_of ts) false true (gathered_after p (Plain slash) (text_of ts) g)) (sym e)
+    (subst (λ x. Arrived (step p mode (in_block closes_comment false d o) slash (text_of ts)) (text_of ts) false true (gathered_after p (Plain slash) (text_of ts) x)) (sym n)
+    (going false refl refl (fits_none true))))
+token_sent p mode st ln s g t ts (over nil goes e) h c m l = absurd (some_bytes t (text_of ts) nil)
 
-walk : (p : Program) (mode : Bool) (st ln f : Bool) (g : Gathering) (ts : List Token) → Fits st ln f g.after →
-    AreTokensBefore mode [] ts → IsClear st ln ts → HoldNoSpecial ts → BeginWithNoMarkFrom st ts →
-    ends_in_backslash (text_of ts) ≡ false →
-    finish (steps p mode (base (place g.after) f g.out) (text_of ts)) ≡ all_sent (gathered_from p g ts).out
-walk p mode st ln f g [] k h e s m l = sent_at_place g.after f g.out
-walk p mode st ln f g (t ∷ ts) k h e s m l =
-    let word : begins_line ln t ≡ true → begins_word (codes "delimiter") (text_of ts) ≡ false =
-    λ x. no_word mode (begins_statement st t) ts h.1 (subst (λ y. IsClear (begins_statement st t) y ts) x e.2) in
-    let arrived : Arrived (before p mode (text_of ts) (base (place g.after) f g.out) (bytes_of t)) (text_of ts) (begins_statement st t) (begins_line ln t) (gathered_after p t (text_of ts) g) =
-    token_of p mode st ln g.after f t (text_of ts) g.out k h.0 e.0 e.1 (not-false (begins_no_special t (text_of ts)) s.0) m.0 (no_zero st ln (t ∷ ts) e) l word in
-    ap finish (steps_then p mode (text_of ts) (base (place g.after) f g.out) (bytes_of t))
-    ∙ elim arrived [
-      | going fr e' k' ↦
-          ap (λ x. finish (steps p mode x (text_of ts))) e'
-          ∙ walk p mode (begins_statement st t) (begins_line ln t) fr (gathered_after p t (text_of ts) g) ts k' h.1 e.2 s.1 m.1 (last_after (bytes_of t) (text_of ts) l)
-      | over nil goes out_is ↦
-          sent_at_over p mode (before p mode (text_of ts) (base (place g.after) f g.out) (bytes_of t)) (gathered_after p t (text_of ts) g) ts (none_left ts nil) goes out_is
-    ]
+walk : (p : Program) (mode st ln : Bool) (s : State) (g : Gathering) (ts : List Token) → Arrived s (text_of ts) st ln g →
+    AreTokensBefore mode [] ts → IsClear st ln ts → (p ≡ mariadb → BeginWithNoMarkFrom st ts) → ends_in_backslash (text_of ts) ≡ false →
+    finish (steps p mode s (text_of ts)) ≡ all_sent (gathered_from p g ts).out
+walk p mode st ln s g [] a h e m l = none_sent s st ln g a
+walk p mode st ln s g (t ∷ ts) a h e m l =
+    ap finish (steps_then p mode (text_of ts) s (bytes_of t))
+    ∙ walk p mode (begins_statement st t) (begins_line ln t) (before p mode (text_of ts) s (bytes_of t)) (gathered_after p t (text_of ts) g) ts
+    (token_sent p mode st ln s g t ts a h e (λ x. (m x).0) l) h.1 e.2 (λ x. (m x).1) (last_after (bytes_of t) (text_of ts) l)
 
 -- ---- a text
 
-sent_lines : (p : Program) (mode : Bool) (ts : List Token) → AreTokensBefore mode [] ts → IsClear true true ts → HoldNoSpecial ts →
-    BeginWithNoMarkFrom true ts → ends_in_backslash (text_of ts) ≡ false →
+sent_lines : (p : Program) (mode : Bool) (ts : List Token) → AreTokensBefore mode [] ts → IsClear true true ts →
+    (p ≡ mariadb → BeginWithNoMarkFrom true ts) → ends_in_backslash (text_of ts) ≡ false →
     sends_lines p mode (text_of ts) ≡ record { statements = sent_from p ts; comes_to_command = false }
-sent_lines p mode ts h e s m l =
+sent_lines p mode ts h e m l =
     let front : begin p (text_of ts) ≡ base outside true nothing_sent =
     line_goes p (text_of ts) (base outside true nothing_sent) (no_zero true true ts e) (no_word mode true ts h e) in
+    let fits : Fits true true true false = record { fresh_is = λ x. refl; line_is = λ x. refl; after_is = λ x. absurd (true≢false (sym x)) } in
     ap (λ x. finish (steps p mode x (text_of ts))) front
-    ∙ walk p mode true true true (record { after = false; out = nothing_sent }) ts (record { fresh_is = λ x. refl; line_is = λ x. refl; after_is = λ x. absurd (true≢false (sym x)) }) h e s m l
+    ∙ walk p mode true true (base outside true nothing_sent) first_gathering ts (going true refl refl fits) h e m l
 
 -- ---- a UTF-8 mark
 
@@ -164,50 +161,48 @@ plain_front mode c (Mark ∷ ts) h k e = absurd (no_byte question_mark c k refl 
 plain_front mode c (Plain b ∷ ts) h k e = (ts, ap (λ x. Plain x ∷ ts) (eqb-true b c e))
 
 -- what is asked of tokens
-pub record IsFine (mode st ln : Bool) (ts : List Token) : Type 0 where
+pub record IsFine (p : Program) (mode st ln : Bool) (ts : List Token) : Type 0 where
   pub tokens : AreTokensBefore mode [] ts
   pub clear : IsClear st ln ts
-  pub no_special : HoldNoSpecial ts
-  pub no_mark : BeginWithNoMarkFrom st ts
+  pub no_mark : p ≡ mariadb → BeginWithNoMarkFrom st ts
   pub last : ends_in_backslash (text_of ts) ≡ false
 
-fine_after : (mode st ln : Bool) (c : ℕ) (ts : List Token) → IsFine mode st ln (Plain c ∷ ts) →
-    IsFine mode (begins_statement st (Plain c)) (begins_line ln (Plain c)) ts
-fine_after mode st ln c ts k = record {
+fine_after : (p : Program) (mode st ln : Bool) (c : ℕ) (ts : List Token) → IsFine p mode st ln (Plain c ∷ ts) →
+    IsFine p mode (begins_statement st (Plain c)) (begins_line ln (Plain c)) ts
+fine_after p mode st ln c ts k = record {
   tokens = k.tokens.1;
   clear = k.clear.2;
-  no_special = k.no_special.1;
-  no_mark = k.no_mark.1;
+  no_mark = λ x. (k.no_mark x).1;
   last = last_after (c ∷ []) (text_of ts) k.last;
 }
 
-sent_fine : (p : Program) (mode : Bool) (ts : List Token) → IsFine mode true true ts →
+sent_fine : (p : Program) (mode : Bool) (ts : List Token) → IsFine p mode true true ts →
     sends_lines p mode (text_of ts) ≡ record { statements = sent_from p ts; comes_to_command = false }
-sent_fine p mode ts k = sent_lines p mode ts k.tokens k.clear k.no_special k.no_mark k.last
+sent_fine p mode ts k = sent_lines p mode ts k.tokens k.clear k.no_mark k.last
 
 -- the statements of a text with a mark
-sent_marked : (p : Program) (mode : Bool) (ts : List Token) → IsFine mode true true ts → begins_mark (text_of ts) ≡ true →
+sent_marked : (p : Program) (mode : Bool) (ts : List Token) → IsFine p mode true true ts → begins_mark (text_of ts) ≡ true →
     sends_lines p mode (drop 3 (text_of ts)) ≡ record { statements = sent_from p (drop 3 ts); comes_to_command = false }
 sent_marked p mode ts k e =
     let a = and_parts (begins (λ b. b == 239) (text_of ts)) (begins (λ b. b == 187) (drop 1 (text_of ts)) && begins (λ b. b == 191) (drop 2 (text_of ts))) e in
     let first = plain_front mode 239 ts k.tokens refl a.0 in
-    let k1 = fine_after mode true true 239 first.0 (subst (IsFine mode true true) first.1 k) in
+    let k1 = fine_after p mode true true 239 first.0 (subst (IsFine p mode true true) first.1 k) in
     let b1 = subst (λ x. (begins (λ b. b == 187) (drop 1 (text_of x)) && begins (λ b. b == 191) (drop 2 (text_of x))) ≡ true) first.1 a.1 in
     let b = and_parts (begins (λ b. b == 187) (text_of first.0)) (begins (λ b. b == 191) (drop 1 (text_of first.0))) b1 in
     let second = plain_front mode 187 first.0 k1.tokens refl b.0 in
-    let k2 = fine_after mode true true 187 second.0 (subst (IsFine mode true true) second.1 k1) in
+    let k2 = fine_after p mode true true 187 second.0 (subst (IsFine p mode true true) second.1 k1) in
     let c1 = subst (λ x. begins (λ b. b == 191) (drop 1 (text_of x)) ≡ true) second.1 b.1 in
     let third = plain_front mode 191 second.0 k2.tokens refl c1 in
-    let k3 = fine_after mode true true 191 third.0 (subst (IsFine mode true true) third.1 k2) in
+    let k3 = fine_after p mode true true 191 third.0 (subst (IsFine p mode true true) third.1 k2) in
     let all : ts ≡ Plain 239 ∷ Plain 187 ∷ Plain 191 ∷ third.0 = first.1 ∙ (ap (λ x. Plain 239 ∷ x) second.1 ∙ ap (λ x. Plain 239 ∷ Plain 187 ∷ x) third.1) in
     subst (λ x. sends_lines p mode (drop 3 (text_of x)) ≡ record { statements = sent_from p (drop 3 x); comes_to_command = false }) (sym all)
     (sent_fine p mode third.0 k3)
 
 pub sent : (p : Program) (mode : Bool) (text : List ℕ) (ts : List Token) → IsTokens mode text ts →
-    first_unportable_in_client ts ≡ None → HoldNoSpecial ts → BeginWithNoMark ts → ends_in_backslash text ≡ false →
+    first_unportable_in_client ts ≡ None → (p ≡ mariadb → BeginWithNoMark ts) → ends_in_backslash text ≡ false →
     sends p mode text ≡ record { statements = sent_statements p ts; comes_to_command = false }
-sent p mode text ts h e s m l =
-    let k : IsFine mode true true ts = record { tokens = h.each; clear = clear_of ts 0 true true e; no_special = s; no_mark = m; last = ap ends_in_backslash h.text ∙ l } in
+sent p mode text ts h e m l =
+    let k : IsFine p mode true true ts = record { tokens = h.each; clear = clear_of ts 0 true true e; no_mark = m; last = ap ends_in_backslash h.text ∙ l } in
     subst (λ x. sends p mode x ≡ record { statements = sent_statements p ts; comes_to_command = false }) h.text
     (elim (cases_Bool (begins_mark (text_of ts))) [
       | inl y ↦ rw y (sent_marked p mode ts k y)

@@ -37,14 +37,12 @@ pub zero_byte : (p : Program) → IsSentOtherwiseBy p (97 ∷ 0 ∷ []) construc
 unfolding is_client_word pass_on pass_as_is pass_with_next owe send end_line
 zero_byte mysql = record {
   found = refl;
-  no_special = (refl, (refl, tt));
   no_mark = (refl, (refl, tt));
   last = refl;
   otherwise = differ_so one_is_sent _ _ refl refl;
 }
 zero_byte mariadb = record {
   found = refl;
-  no_special = (refl, (refl, tt));
   no_mark = (refl, (refl, tt));
   last = refl;
   otherwise = differ_so one_is_sent _ _ refl refl;
@@ -54,14 +52,12 @@ pub opener_in_comment : (p : Program) → IsSentOtherwiseBy p (codes "/*/*!*/;5"
 unfolding is_client_word pass_on pass_as_is pass_with_next owe send end_line
 opener_in_comment mysql = record {
   found = refl;
-  no_special = (refl, (refl, (refl, tt)));
   no_mark = (refl, (refl, (refl, tt)));
   last = refl;
   otherwise = differ one_is_sent _ _ refl refl;
 }
 opener_in_comment mariadb = record {
   found = refl;
-  no_special = (refl, (refl, (refl, tt)));
   no_mark = (refl, (refl, (refl, tt)));
   last = refl;
   otherwise = differ one_is_sent _ _ refl refl;
@@ -71,14 +67,12 @@ pub escaped_newline : (p : Program) → IsSentOtherwiseBy p (codes "'\\\n'") con
 unfolding is_client_word pass_on pass_as_is pass_with_next owe send end_line
 escaped_newline mysql = record {
   found = refl;
-  no_special = (refl, tt);
   no_mark = (refl, tt);
   last = refl;
   otherwise = differ (has_length 3) _ _ refl refl;
 }
 escaped_newline mariadb = record {
   found = refl;
-  no_special = (refl, tt);
   no_mark = (refl, tt);
   last = refl;
   otherwise = differ (has_length 3) _ _ refl refl;
@@ -88,14 +82,12 @@ pub delimiter : (p : Program) → IsSentOtherwiseBy p (codes "5\ndelimiter\n5") 
 unfolding is_client_word pass_on pass_as_is pass_with_next owe send end_line
 delimiter mysql = record {
   found = refl;
-  no_special = (refl, (refl, (refl, (refl, (refl, (refl, (refl, (refl, (refl, (refl, (refl, (refl, (refl, tt)))))))))))));
   no_mark = (refl, (refl, (refl, (refl, (refl, (refl, (refl, (refl, (refl, (refl, (refl, (refl, (refl, tt)))))))))))));
   last = refl;
   otherwise = differ (has_length 12) _ _ refl refl;
 }
 delimiter mariadb = record {
   found = refl;
-  no_special = (refl, (refl, (refl, (refl, (refl, (refl, (refl, (refl, (refl, (refl, (refl, (refl, (refl, tt)))))))))))));
   no_mark = (refl, (refl, (refl, (refl, (refl, (refl, (refl, (refl, (refl, (refl, (refl, (refl, (refl, tt)))))))))))));
   last = refl;
   otherwise = differ (has_length 12) _ _ refl refl;
@@ -105,14 +97,12 @@ pub client_command : (p : Program) → IsSentOtherwiseBy p (codes "5\\g") constr
 unfolding is_client_word pass_on pass_as_is pass_with_next owe send end_line
 client_command mysql = record {
   found = refl;
-  no_special = (refl, (refl, (refl, tt)));
   no_mark = (refl, (refl, (refl, tt)));
   last = refl;
   otherwise = differ (λ s. s.comes_to_command) _ _ refl refl;
 }
 client_command mariadb = record {
   found = refl;
-  no_special = (refl, (refl, (refl, tt)));
   no_mark = (refl, (refl, (refl, tt)));
   last = refl;
   otherwise = differ (λ s. s.comes_to_command) _ _ refl refl;
@@ -122,7 +112,6 @@ pub client_word : IsSentOtherwiseBy mariadb (codes "use a") construct.ClientWord
 unfolding is_client_word pass_on pass_as_is pass_with_next owe send end_line
 client_word = record {
   found = refl;
-  no_special = (refl, (refl, (refl, (refl, (refl, tt)))));
   no_mark = (refl, (refl, (refl, (refl, (refl, tt)))));
   last = refl;
   otherwise = differ (λ s. s.comes_to_command) _ _ refl refl;
@@ -132,7 +121,6 @@ pub dash_in_front : IsSentOtherwiseBy mariadb (codes "--a\n5") construct.DashInF
 unfolding is_client_word pass_on pass_as_is pass_with_next owe send end_line
 dash_in_front = record {
   found = refl;
-  no_special = (refl, (refl, (refl, (refl, (refl, tt)))));
   no_mark = (refl, (refl, (refl, (refl, (refl, tt)))));
   last = refl;
   otherwise = differ_so one_is_sent _ _ refl refl;
@@ -154,6 +142,16 @@ pub nothing_after_end : first_unportable_in_client (tokens_of with_backslashes (
 unfolding is_client_word
 nothing_after_end = refl
 
+-- ---- spaces at a hint
+
+pub nothing_at_hint : first_unportable_in_client (tokens_of with_backslashes (codes "/**//*+b*/,c")) ≡ None
+unfolding is_client_word
+nothing_at_hint = refl
+
+pub hint : Sends mariadb (codes "/**//*+b*/,c") (codes "/**//* +b*/ ,c" ∷ [])
+unfolding is_client_word pass_on pass_as_is pass_with_next owe send end_line
+hint = refl
+
 -- ---- though nothing is found
 
 pub mark_in_front : IsOverlooked mariadb (codes "?")
@@ -164,7 +162,3 @@ pub backslash_at_end : (p : Program) → IsOverlooked p (codes "'a\\")
 unfolding is_client_word pass_on pass_as_is pass_with_next owe send end_line
 backslash_at_end mysql = record { none = refl; otherwise = differ (has_length 2) _ _ refl refl }
 backslash_at_end mariadb = record { none = refl; otherwise = differ (has_length 2) _ _ refl refl }
-
-pub hint : IsOverlooked mariadb (codes "a/*+b*/,c")
-unfolding is_client_word pass_on pass_as_is pass_with_next owe send end_line
-hint = record { none = refl; otherwise = differ (has_length 10) _ _ refl refl }

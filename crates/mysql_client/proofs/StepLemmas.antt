@@ -3,12 +3,13 @@ use Rattle.std.specs.Prelude.{Bool, not, codes}
 use Rattle.std.proofs.Common.{◌≡◌, ◌⊎◌, ℕ, true, false, cond, ◌==◌, ◌&&◌, List, [], ◌∷◌, ◌++◌, refl, sym, ap, ◌∙◌, inl, inr, true≢false}
 use Rattle.std.specs.List.{list_any}
 use Rattle.std.proofs.lemmas.Bool.{cases_Bool, or_parts, eqb-true}
-use Rattle.mysql_named_params.specs.Bytes.{carriage_return, newline}
+use Rattle.mysql_named_params.specs.Bytes.{asterisk, carriage_return, newline, slash, begins}
+use Rattle.mysql_portable.specs.Quiet.{stands_apart, is_quiet}
 use Rattle.mysql_portable.specs.FoundInClient.{begins_word}
 use Rattle.mysql_client.specs.Outgoing.{Outgoing, send}
-use Rattle.mysql_client.specs.ClientState.{Program, no_special, Reading, outside, after_end, in_quotes, after_backslash, opens_comment, in_comment, closes_comment, in_line, stopped, at_command, State}
+use Rattle.mysql_client.specs.ClientState.{Program, Special, no_special, Reading, outside, after_end, in_quotes, after_backslash, opens_comment, in_comment, closes_comment, in_line, stopped, at_command, State}
 use Rattle.mysql_client.specs.Sends.{step, steps, holds_zero, at_line, goes_on, sent_at_end, is_return}
-use Rattle.mysql_client.specs.SentStatements.{Gathering}
+use Rattle.mysql_client.specs.SentStatements.{Gathering, no_part, in_hint, at_hint_end}
 
 -- ---- states
 
@@ -26,9 +27,29 @@ pub record Fits (statement line fresh after : Bool) : Type 0 where
   pub line_is : statement ≡ true → line ≡ true
   pub after_is : after ≡ true → (fresh ≡ true) × (line ≡ true)
 
+-- the state in a special comment
+abbrev pub in_special_comment : Special → Outgoing → State
+in_special_comment special o = record { reading = outside; special = special; fresh = false; drops = false; out = o }
+
+-- the state in a block comment
+abbrev pub in_block : Reading → Bool → Bool → Outgoing → State
+in_block r f d o = record { reading = r; special = no_special; fresh = f; drops = d; out = o }
+
+-- after the `/` of a hint, or later
+pub data InHint (r : Reading) (rest : List ℕ) : Type 0 where
+  at_its_star : (text : List ℕ) → r ≡ opens_comment → rest ≡ asterisk ∷ text → begins (λ c. c == slash) text ≡ false → InHint r rest
+  behind_it : r ≡ in_comment → InHint r rest
+
 -- the state after a token and before a rest
 pub data Arrived (s : State) (rest : List ℕ) (statement line : Bool) (g : Gathering) : Type 0 where
-  going : (fresh : Bool) → s ≡ base (place g.after) fresh g.out → Fits statement line fresh g.after →
+  going : (fresh : Bool) → s ≡ base (place g.after) fresh g.out → g.part ≡ no_part → Fits statement line fresh g.after →
+      Arrived s rest statement line g
+  special_goes : (special : Special) (o : Outgoing) → s ≡ in_special_comment special o →
+      g ≡ record { after = false; part = no_part; out = o } → statement ≡ false → is_quiet rest ≡ true → Arrived s rest statement line g
+  hint_goes : (r : Reading) (d : Bool) (o : Outgoing) → s ≡ in_block r false d o →
+      g ≡ record { after = false; part = in_hint; out = o } → statement ≡ false → InHint r rest → is_quiet rest ≡ true → Arrived s rest statement line g
+  hint_ends : (d : Bool) (o : Outgoing) (text : List ℕ) → s ≡ in_block closes_comment false d o →
+      g ≡ record { after = false; part = at_hint_end; out = o } → statement ≡ false → rest ≡ slash ∷ text → stands_apart text ≡ true →
       Arrived s rest statement line g
   over : rest ≡ [] → goes_on s.reading ≡ true → s.out ≡ g.out → Arrived s rest statement line g
 

@@ -56,7 +56,7 @@ pub data Reading : Type 0 where
 pub record State : Type 0 where
   pub reading : Reading
   pub special : Special
-  -- only white space and block comments have come of the next statement
+  -- only white space has come of the next statement
   pub fresh : Bool
   -- the client drops the newline at the end of this line, if it is outside of quotes there
   pub drops : Bool
@@ -180,17 +180,50 @@ abbrev pub begins_slash_star : List ℕ → Bool
 begins_slash_star [] = false
 begins_slash_star (b ∷ bs) = b == slash && begins (λ c. c == asterisk) bs
 
--- the word `delimiter` is in the text
-abbrev pub holds_delimiter : Program → List ℕ → Bool
-holds_delimiter p [] = false
-holds_delimiter p (b ∷ bs) = begins_delimiter p (b ∷ bs) || holds_delimiter p bs
+-- where `mysql` looks for its command `delimiter`, from the front of a statement on
+pub data Look : Type 0 where
+  -- outside of comments
+  past : Look
+  -- at the `*` of `/*`
+  at_star : Look
+  -- in a block comment, up to its first `*/`
+  in_plain : Look
+  -- in a special comment, likewise
+  in_special : Look
+  -- at the `/` of `*/`
+  at_slash : Look
 
--- A special comment that `mysql` may lose: it looks for the word `delimiter` after the comments at
--- the front of a statement, and doesn't always see where a special one ends.
+-- the word is at the front of a text, behind white space
+abbrev pub begins_line_word : Program → List ℕ → Bool
+begins_line_word p [] = false
+begins_line_word p (b ∷ bs) =
+    begins_delimiter p (b ∷ bs) || (is_space b && begins_line_word p bs)
+
+-- where the look goes on after `/` before this text
+abbrev pub look_in : Program → List ℕ → Look
+look_in p rest = if is_none (special_at p (drop 1 rest)) then at_star else in_special
+
+-- The look finds the word: after white space and comments, or at the front of a line of a special
+-- comment. A backslash at the end of a line counts for nothing.
+abbrev pub finds_word : Program → Look → List ℕ → Bool
+finds_word p look [] = false
+finds_word p past (b ∷ bs) =
+    begins_delimiter p (b ∷ bs)
+    || (if is_space b || (b == byte "\\" && ends_here bs) then finds_word p past bs
+    else begins_slash_star (b ∷ bs) && finds_word p (look_in p bs) bs)
+finds_word p at_star (b ∷ bs) = finds_word p in_plain bs
+finds_word p in_plain (b ∷ bs) =
+    finds_word p (if begins_close b bs then at_slash else in_plain) bs
+finds_word p in_special (b ∷ bs) =
+    (b == newline && begins_line_word p bs)
+    || finds_word p (if begins_close b bs then at_slash else in_special) bs
+finds_word p at_slash (b ∷ bs) = finds_word p past bs
+
+-- A comment with which a statement begins, before the command `delimiter` of `mysql`. If the
+-- comment holds a `/`, the word may be no command after all.
 abbrev pub hides_command : Program → ℕ → List ℕ → Bool
 hides_command p b rest =
-    (begins_slash_star (b ∷ rest) && not (is_none (special_at p (drop 1 rest))))
-    && (holds_delimiter p rest && not (is_mariadb p))
+    begins_slash_star (b ∷ rest) && (finds_word p (look_in p rest) rest && not (is_mariadb p))
 
 -- what begins at a byte before this text, outside of quotes and comments
 abbrev pub beginning : Program → State → ℕ → List ℕ → Beginning

@@ -3,9 +3,11 @@
 use Rattle.std.specs.Prelude.{ℕ, IsFalse, Bool, ◌==◌, if◌then◌else◌, List, [], ◌∷◌, ⊤}
 use Rattle.std.specs.List.{list_any}
 use Rattle.mysql_named_params.specs.Bytes.{carriage_return}
-use Rattle.mysql_named_params.specs.Tokens.{Token, text_of}
+use Rattle.mysql_named_params.specs.Tokens.{Token, text_of, Plain}
 use Rattle.mysql_portable.specs.FoundInClient.{is_comment}
 use Rattle.mysql_client.specs.Outgoing.{is_space, is_empty, trimmed}
+use Rattle.mysql_client.specs.ClientState.{Program}
+use Rattle.mysql_client.specs.SentStatements.{opens_hint}
 
 -- the text without white space at its front
 abbrev pub past_space : List ℕ → List ℕ
@@ -30,6 +32,12 @@ bare_texts (ts ∷ more) = if_any (bare (text_of ts)) (bare_texts more)
 abbrev pub HoldNoComment : List Token → Type 0
 HoldNoComment [] = ⊤
 HoldNoComment (t ∷ ts) = IsFalse (is_comment t) × HoldNoComment ts
+
+-- no token is the `/` of a hint, which `mariadb` takes for a comment
+abbrev pub HoldNoHint : Program → List Token → Type 0
+HoldNoHint p [] = ⊤
+HoldNoHint p (Plain b ∷ ts) = IsFalse (opens_hint p b (text_of ts)) × HoldNoHint p ts
+HoldNoHint p (t ∷ ts) = HoldNoHint p ts
 
 -- the text has a carriage return
 abbrev pub has_return : List ℕ → Bool

@@ -2,13 +2,12 @@
 -- with the options of README: comments are kept, and the character set is utf8mb4. The client reads
 -- lines and drops a carriage return before a newline. From a line with a byte 0 on it reads no
 -- more. It looks for strings, identifiers and comments to know where a statement ends. Source: the
--- texts that the clients send, by experiment (docs/EVIDENCE.md). One case isn't right: at the front
--- of a statement `mysql` ends a comment that holds `/*/` there, to look for the word `delimiter`.
+-- texts that the clients send, by experiment (docs/EVIDENCE.md).
 use Rattle.std.specs.Prelude.{ℕ, Bool, true, false, not, ◌==◌, ◌&&◌, ◌||◌, if◌then◌else◌, List, [], ◌∷◌, drop}
 use Rattle.std.specs.Str.{byte}
 use Rattle.mysql_named_params.specs.Bytes.{backquote, carriage_return, dash, hash, newline, begins}
 use Rattle.mysql_client.specs.Outgoing.{Outgoing, is_space, is_empty, pass_on, pass_as_is, pass_with_next, owe, send, send_if, end_line}
-use Rattle.mysql_client.specs.ClientState.{Program, is_mariadb, no_special, Reading, outside, after_end, in_quotes, after_backslash, opens_comment, in_comment, closes_comment, in_line, stopped, at_command, State, ends_here, is_none, is_hint, begins_block, begins_close, begins_delimiter, ends_dashes, escapes, Beginning, command, null, dropped, end, line_comment, empty_comment, block_comment, quotes, other, beginning, special_after}
+use Rattle.mysql_client.specs.ClientState.{Program, no_special, Reading, outside, after_end, in_quotes, after_backslash, opens_comment, in_comment, closes_comment, in_line, stopped, at_command, State, ends_here, is_none, is_hint, begins_block, begins_close, begins_delimiter, ends_dashes, escapes, Beginning, command, null, dropped, end, line_comment, empty_comment, block_comment, quotes, other, beginning, special_after}
 
 -- ---- a byte of a line
 
@@ -28,7 +27,7 @@ begun p s b rest empty_comment =
     record s { fresh = false; drops = false; out = pass_with_next b s.out }
 begun p s b rest block_comment = record s {
   reading = opens_comment;
-  fresh = s.fresh && not (is_mariadb p);
+  fresh = false;
   drops = false;
   out = pass_with_next b s.out;
 }

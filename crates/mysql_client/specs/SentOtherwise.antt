@@ -7,7 +7,7 @@ use Rattle.mysql_portable.specs.FirstUnportableInClient.{first_unportable_in_cli
 use Rattle.mysql_portable.specs.declared.portable.Construct.{Construct}
 use Rattle.mysql_client.specs.ClientState.{Program}
 use Rattle.mysql_client.specs.Sends.{Sending, sends}
-use Rattle.mysql_client.specs.SentStatements.{sent_statements, HoldNoSpecial, BeginWithNoMark, ends_in_backslash}
+use Rattle.mysql_client.specs.SentStatements.{sent_statements, BeginWithNoMark, ends_in_backslash}
 
 -- the statements of a text, each as it is, without a command of the client
 abbrev pub as_it_is : Program → List Token → Sending
@@ -24,7 +24,6 @@ pub record IsSentOtherwiseBy (p : Program) (text : List ℕ) (construct : Constr
     : Type 0 where
   pub found : first_unportable_in_client (tokens_of with_backslashes text)
       ≡ Some (record { construct = construct; at = at })
-  pub no_special : HoldNoSpecial (tokens_of with_backslashes text)
   pub no_mark : BeginWithNoMark (tokens_of with_backslashes text)
   pub last : IsFalse (ends_in_backslash text)
   pub otherwise : IsSentOtherwise p text

@@ -8,18 +8,18 @@ ghost use Rattle.mysql_portable.specs.FirstUnportableInClient.{first_unportable_
 ghost use Rattle.mysql_portable.specs.Statements.{statements};
 ghost use Rattle.mysql_client.specs.ClientState.{Program, mariadb};
 ghost use Rattle.mysql_client.specs.Sends.{begins_mark, sends};
-ghost use Rattle.mysql_client.specs.PlainStatements.{past_space, bare_texts, HoldNoComment, has_return};
+ghost use Rattle.mysql_client.specs.PlainStatements.{past_space, bare_texts, HoldNoHint, HoldNoComment, has_return};
 ghost use Rattle.mysql_client.specs.SentOtherwise.{IsSentOtherwiseBy, IsOverlooked, Sends};
 ghost use Rattle.mysql_portable.specs.declared.portable.Construct.TheVariants as construct;
-ghost use Rattle.mysql_client.specs.SentStatements.{sent_statements, HoldNoSpecial, BeginWithNoMark, ends_in_backslash};
+ghost use Rattle.mysql_client.specs.SentStatements.{sent_statements, BeginWithNoMark, ends_in_backslash};
 
 /// What a client sends of a text in which `first_unportable_in_client` finds nothing: the text's
-/// statements, each as it is, without a command of the client. The text has no `/*!`, `/*+` and
-/// `/*M!`, no statement begins with `?`, and its last byte is no backslash.
+/// statements, each as it is, without a command of the client. The last byte is no backslash. If
+/// the client is MariaDB's, no statement begins with `?`.
 pub fn portable_texts_are_sent()
     ensures sent { (p : Program) (mode : Bool) (text : List ℕ) (ts : List Token) →
-        IsTokens mode text ts → first_unportable_in_client ts ≡ None → HoldNoSpecial ts →
-        BeginWithNoMark ts → IsFalse (ends_in_backslash text) →
+        IsTokens mode text ts → first_unportable_in_client ts ≡ None →
+        (p ≡ mariadb → BeginWithNoMark ts) → IsFalse (ends_in_backslash text) →
         sends p mode text
         ≡ record { statements = sent_statements p ts; comes_to_command = false } }
 {}
@@ -48,16 +48,19 @@ pub fn constructs_are_sharp()
 {}
 
 /// In these texts nothing is found, and a client sends something else. So the other conditions of
-/// `portable_texts_are_sent` are needed:
+/// `portable_texts_are_sent` are needed, and so are the spaces of `sent_statements`:
 /// - MariaDB's client takes `?` where a statement begins for its word `help`.
 /// - A backslash at the end of a text isn't sent, even in quotes that stay open.
-/// - After a hint MariaDB's client sends a space that isn't in the text.
+/// - MariaDB's client sends a space after a hint, and directly after a comment one within its sign.
+///   MySQL's does so with a comment of `/*M!`.
 /// - The space that is owed after a comment may come within the first word after a `;` on its line:
 ///   `/**/;éa` is sent as `/**/` and `é a`.
 pub fn conditions_are_needed()
     ensures mark_in_front { IsOverlooked mariadb (codes "?") }
     ensures backslash_at_end { (p : Program) → IsOverlooked p (codes "'a\\") }
-    ensures hint { IsOverlooked mariadb (codes "a/*+b*/,c") }
+    ensures nothing_at_hint { first_unportable_in_client
+        (tokens_of with_backslashes (codes "/**//*+b*/,c")) ≡ None }
+    ensures hint { Sends mariadb (codes "/**//*+b*/,c") (codes "/**//* +b*/ ,c" ∷ []) }
     ensures nothing_after_end { first_unportable_in_client
         (tokens_of with_backslashes (codes "/**/;" ++ 195 ∷ 169 ∷ 97 ∷ [])) ≡ None }
     ensures joining_after_end { (p : Program) →
@@ -68,11 +71,12 @@ pub fn conditions_are_needed()
 /// If the text has no comment, no carriage return and no UTF-8 mark either, what a client sends is
 /// the texts of `statements`, the tokens between one `;` and the next, except empty ones. White
 /// space at both ends of a statement, and control bytes and the byte 255 at its end, count for
-/// nothing here.
+/// nothing here. To MariaDB's client a hint is a comment too.
 pub fn texts_without_comments_are_sent()
     ensures sent { (p : Program) (mode : Bool) (text : List ℕ) (ts : List Token) →
-        IsTokens mode text ts → first_unportable_in_client ts ≡ None → HoldNoSpecial ts →
-        BeginWithNoMark ts → IsFalse (ends_in_backslash text) → HoldNoComment ts →
+        IsTokens mode text ts → first_unportable_in_client ts ≡ None →
+        (p ≡ mariadb → BeginWithNoMark ts) → IsFalse (ends_in_backslash text) →
+        HoldNoComment ts → HoldNoHint p ts →
         IsFalse (has_return text) → IsFalse (begins_mark text) →
         map past_space (sends p mode text).statements ≡ bare_texts (statements ts) }
 {}

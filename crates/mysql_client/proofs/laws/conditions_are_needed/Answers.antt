@@ -5,6 +5,7 @@ pub returns : goal.returns
 returns c = record {
   mark_in_front = lemmas.mark_in_front;
   backslash_at_end = lemmas.backslash_at_end;
+  nothing_at_hint = lemmas.nothing_at_hint;
   hint = lemmas.hint;
   nothing_after_end = lemmas.nothing_after_end;
   joining_after_end = lemmas.joining_after_end;
