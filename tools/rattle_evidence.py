@@ -13,20 +13,26 @@ from rattle_source import INDENT
 NAME = re.compile(r"(?<=::)\w+|(?<=\.)\w+|\b\w+(?=\(|::)|(?<=\()\w+(?=[,)])|(?<=, )\w+(?=[,)])|\b[A-Z]\w*")
 # A name after `::`, or after a dot if it is called; with its `()` if it is called without arguments.
 MEMBER = re.compile(r"::(\w+(?:\(\))?)|\.(\w+(?:\(\)|(?=\()))")
+# A name after `::`, with the name before.
+OF_TYPE = re.compile(r"\b(\w+(?:::<[^<>]*>)?::\w+)")
 SELF = re.compile(r"\(\s*(?:&\s*(?:'\w+\s+)?)?(?:mut\s+)?self\b\s*(,?\s*\))?")
 
 
 def names_in(item):
-    """The names in the body of a function, and those after a dot or `::` again, with a dot before them."""
+    """The names in the body of a function. Those after a dot or `::` are there again, with a dot or the name before them."""
     body = item.text.removeprefix(item.head)
-    return {*NAME.findall(body), *(f".{path or method}" for path, method in MEMBER.findall(body))}
+    members = (f".{path or method}" for path, method in MEMBER.findall(body))
+    return {*NAME.findall(body), *members, *(re.sub(r"::<[^<>]*>", "", name) for name in OF_TYPE.findall(body))}
 
 
-def may_call(words, item):
-    """Whether one of these names of a body may call this function: `text.len()` is no call of a `len` that takes a value."""
+def may_call(words, holder, item):
+    """Whether one of these names of a body may call this function: `text.len()` is no call of a `len` that takes a value,
+    and `Vec::new` none of another type's `new`."""
     method = SELF.search(item.head)
     if not method:
-        return item.name in words
+        trait, subject = parts(holder.head) if holder and holder.kind == "impl" else ("", "")
+        of_type = subject and not trait
+        return any(f"{name}::{item.name}" in words for name in (bare(subject), "Self")) if of_type else item.name in words
     return f".{item.name}" in words or (method[1] is not None and f".{item.name}()" in words)
 
 
@@ -188,9 +194,9 @@ class Edits:
 
     def users(self, one):
         """The functions whose bodies name this one: of its crate, and of the files that import it."""
-        source, _, item = one
+        source, holder, item = one
         files = [*sources_of(source.crate), *self.importers.get((source.path, item.name), [])]
-        users = [user for file in files for user, words in self.named_in(file) if may_call(words, item)]
+        users = [user for file in files for user, words in self.named_in(file) if may_call(words, holder, item)]
         return [user for user in users if key_of(*user) != key_of(*one)]
 
     def named_in(self, source):
