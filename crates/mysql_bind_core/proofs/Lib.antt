@@ -29,3 +29,10 @@ pub mod TableLemmas
 pub mod RowItemLemmas
 pub mod GroupLemmas
 pub mod GroupScriptLemmas
+pub mod FewerRowLemmas
+pub mod FewerEntryLemmas
+pub mod FewerTextLemmas
+pub mod GroupUniqueLemmas
+pub mod FewerSentLemmas
+pub mod FewerTokenLemmas
+pub mod FewerPortableLemmas

@@ -20,3 +20,4 @@ pub mod RowItems
 pub mod RowsBound
 pub mod Groups
 pub mod GroupSearch
+pub mod UniqueGroups

@@ -17,8 +17,10 @@ ghost use Rattle.mysql_bind_core.specs.declared.cell.Cell.{Cell};
 ghost use Rattle.mysql_bind_core.specs.declared.request.Portability.TheVariants as portability;
 ghost use Rattle.mysql_bind_core.specs.declared.request.Request.{Request};
 
+mod groups;
 mod scripts;
 
+pub use groups::groups_are_unique;
 use mysql_binding::laws::{bound_texts_are_sent, bound_texts_in_clients};
 use mysql_fragments::laws::{
     bound_fragments_in_clients, fragments_in_clients, fragments_on_servers,

@@ -6,7 +6,7 @@ use Rattle.mysql_named_params.specs.Tokens.{Token, text_of}
 use Rattle.mysql_named_params.proofs.ReadingLemmas.{one_reading, reading_text}
 use Rattle.mysql_portable.specs.Client.{Client, HoldNoOpener, IsReadBy}
 use Rattle.mysql_portable.specs.FirstUnportableInClient.{IsPortableInClient}
-use Rattle.mysql_portable.specs.Portable.{AreReadAlike, IsReadAs}
+use Rattle.mysql_portable.specs.Portable.{IsReadAs}
 use Rattle.mysql_portable.specs.Quiet.{DecidesWithin, IsHonest}
 use Rattle.mysql_portable.specs.Statements.{statements}
 use Rattle.mysql_portable.specs.Steady.{IsSteady, is_steady}
@@ -34,6 +34,7 @@ use Rattle.mysql_bind_core.specs.declared.request.Portability.TheVariants as por
 use Rattle.mysql_bind_core.specs.declared.request.Request.{Request}
 use Rattle.mysql_bind_core.proofs.EachModeLemmas.{assigned_steady, own_mode, read_in_other, read_in_own, wide_in}
 use Rattle.mysql_bind_core.proofs.LoweredTextLemmas.{low_alone, low_joined, low_replaced, low_tokens, plain_count, plain_read}
+use Rattle.mysql_bind_core.proofs.FewerPortableLemmas.{expanded_alike}
 use Rattle.mysql_bind_core.proofs.laws.written_in_clients.Goals as goal
 
 pub returns : goal.returns
@@ -104,13 +105,6 @@ returns c = record {
     values_statements (literals.Plain mode) wanted ts us given text b = c.bound_texts_in_clients.ensures.statements mode text ts us given b
 
     -- ---- the expanded query
-
-    expanded_alike : (mode : Bool) (query expanded : List ℕ) (ts : List Token) (given : GivenFragments) → IsTokensIn (wide_reading mode) query ts →
-        IsPortableInClient (lower_names ts) → (x : IsExpanded true mode ts given expanded) → AreReadAlike (with_literal_tokens ts x.lists)
-    expanded_alike mode query expanded ts given is p x =
-        subst (λ us. AreReadAlike us) (low_replaced mode ts (map fragment_text x.fragments) x.lists expanded x.tokens_of_fragments x.text_is)
-        (c.fragments_on_servers.ensures.portable mode (text_of (lower_names ts)) expanded (lower_names ts) _ _ x.lists (low_tokens mode query ts is) p.portable.alike
-        (low_alone mode query ts is (expanded_alone true mode ts given expanded x)) x.shapes x.tokens_of_fragments (low_joined ts (map fragment_text x.fragments) expanded x.text_is))
 
     expanded_opener : (mode : Bool) (expanded : List ℕ) (ts : List Token) (given : GivenFragments) →
         IsPortableInClient (lower_names ts) → (x : IsExpanded true mode ts given expanded) → HoldNoOpener (with_literal_tokens ts x.lists)
