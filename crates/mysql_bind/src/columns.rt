@@ -1,30 +1,18 @@
 //! The columns of a table, and what is said of wrong ones.
-use crate::column_words::{ColumnWords, NamedColumn};
 use crate::complaint::{Complaint, Fault, Place, add_fault};
 use crate::group_words::Limits;
 use crate::matching::{NamePlace, add_unused, assigned_names, is_new, note_value, note_values};
 use crate::query_file::{PlacesInOrder, QueryFile};
 use crate::told::SourceName;
 use crate::values::Values;
-use mysql_bind_core::{Assignment, ROW_NAME, Request, ValueType};
+use mysql_bind_core::{
+    Assignment, Column, ColumnWords, NamedColumn, ROW_NAME, Request,
+    columns_of as columns_of_header, copy_of_assignment,
+};
 use mysql_records::LentField;
 use mysql_values::show::Shown;
 use std::alloc::{AllocError, Global};
 use std::collections::{BTreeMap, BTreeSet};
-
-/// A column of a table.
-#[derive(Drop)]
-pub struct Column {
-    /// The name that it is bound to; none if `--column` gives this to another column.
-    pub name: Option<Vec<u8>>,
-    /// How its fields are taken.
-    pub value_type: ValueType,
-    /// The bytes of a field that is NULL, if some mean that.
-    pub null_text: Option<Vec<u8>>,
-    /// Whether its fields are bound: the query has the name or, where rows share statements, the
-    /// column has one.
-    pub used: bool,
-}
 
 /// What the columns of a table are held against.
 #[derive(Drop)]
@@ -49,45 +37,23 @@ pub struct Wanted<'a> {
     pub path: String,
 }
 
-// A copy of bytes, if there are some.
-fn copy_of(alloc: Global, bytes: Option<&[u8]>) -> Result<Option<Vec<u8>>, AllocError> {
-    match bytes {
-        Some(bytes) => Ok(Some(Vec::from_slice(alloc, bytes)?)),
-        None => Ok(None),
-    }
-}
-
-// Whether the fields of a column with this name are bound.
-fn is_used(wanted: &Wanted<'_>, name: Option<&[u8]>) -> bool {
-    match name {
-        Some(name) => wanted.limits.is_some() || wanted.numbers.contains_key(name),
-        None => false,
-    }
-}
-
 // Whether a column has the name of another place than that of the rows.
 fn has_own_place(wanted: &Wanted<'_>, name: &[u8]) -> bool {
     wanted.limits.is_some() && name != ROW_NAME && wanted.numbers.contains_key(name)
 }
 
-// The columns that a header names. NULL is the empty name, which no query has.
+// The columns that a header names. Those without a name in the query are left out, unless all
+// columns stand in the place of the rows.
 fn named_columns(
     alloc: Global,
     wanted: &Wanted<'_>,
     header: &[LentField<'_>],
 ) -> Result<Vec<Column>, AllocError> {
-    let by_header = wanted.words.by_header(alloc)?;
-    let mut columns = Vec::new(alloc);
-    for field in header {
-        let said = by_header.said(field.bytes().unwrap_or(b""));
-        let column = Column {
-            name: copy_of(alloc, said.name)?,
-            value_type: said.value_type,
-            null_text: copy_of(alloc, said.null_text)?,
-            used: is_used(wanted, said.name),
-        };
-        if columns.push(column).is_err() {
-            return Err(AllocError);
+    let mut columns = columns_of_header(alloc, &wanted.words, header)?;
+    if wanted.limits.is_none() {
+        for column in columns.iter_mut() {
+            let name = column.name.as_deref().unwrap_or(b"");
+            column.used = wanted.numbers.contains_key(name);
         }
     }
     Ok(columns)
@@ -287,12 +253,7 @@ pub fn add_fixed(
         if !wanted.numbers.contains_key(fixed.name.as_slice()) {
             continue;
         }
-        let assignment = Assignment {
-            name: Vec::from_slice(alloc, fixed.name.as_slice())?,
-            value_type: fixed.value_type,
-            bytes: Vec::from_slice(alloc, fixed.bytes.as_slice())?,
-        };
-        if assignments.push(assignment).is_err() {
+        if assignments.push(copy_of_assignment(alloc, fixed)?).is_err() {
             return Err(AllocError);
         }
     }

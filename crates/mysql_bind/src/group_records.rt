@@ -1,17 +1,17 @@
 //! The statements of several rows of CSV and TSV, and of what MySQL servers and clients write.
 use crate::changed_text::{changed_column, changed_text};
-use crate::columns::{Column, Wanted, add_fixed};
+use crate::columns::{Wanted, add_fixed};
 use crate::complaint::{Complaint, bad_row};
 use crate::group_words::Limits;
 use crate::matching::is_new;
 use crate::query_file::complaint_of;
-use crate::records::{Table, table_columns};
+use crate::records::Table;
 use crate::refused_row::{RowAt, complaint_of_row};
 use crate::table_script::TableScript;
 use crate::values::Values;
 use mysql_bind_core::{
-    Assignment, Failure, GroupForm, GroupRefusal, ROW_NAME, TableForm, TakenQuery, append_groups,
-    assignments_of, bound_text, record_cells,
+    Assignment, Column, Failure, GroupForm, GroupRefusal, ROW_NAME, TableForm, TakenQuery,
+    append_groups, assignments_of, bound_text, record_cells, taken_columns,
 };
 use std::alloc::{AllocError, Global};
 use std::collections::BTreeSet;
@@ -313,7 +313,7 @@ pub fn add_groups(
     let Some(limits) = wanted.limits else {
         return Ok(());
     };
-    let taken = table_columns(rt.alloc(), columns)?;
+    let taken = taken_columns(rt.alloc(), columns)?;
     let mut fixed = Vec::new(rt.alloc());
     add_fixed(&mut fixed, rt.alloc(), wanted)?;
     let grouped = Grouped {

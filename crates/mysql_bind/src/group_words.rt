@@ -1,12 +1,11 @@
 //! The options `--rows-per-statement` and `--max-bytes`, by which rows of a table share statements.
-use crate::column_words::ColumnWords;
 use crate::complaint::{Complaint, Place, bad_word, one_fault};
 use crate::matching::NamePlace;
 use crate::query_file::QueryFile;
 use crate::told::SourceName;
 use crate::values::{Values, origin_at};
 use clap::ArgMatches;
-use mysql_bind_core::{ROW_NAME, ValueType};
+use mysql_bind_core::{ColumnWords, ROW_NAME, ValueType};
 use std::alloc::Global;
 
 /// The limits of a statement of several rows.

@@ -1,13 +1,13 @@
 //! The rows of NDJSON: a JSON object on each line.
 use crate::columns::{Wanted, add_fixed};
 use crate::complaint::{Complaint, Fault, Place, add_fault, bad_row};
-use crate::json_members::{Decimals, add_members};
+use crate::json_members::add_members;
 use crate::matching::{add_unused, note_values};
 use crate::script::{STREAMED_ROWS, Script};
 use crate::sources::unmarked;
 use crate::told::SourceName;
 use crate::values::Values;
-use mysql_bind_core::Assignment;
+use mysql_bind_core::{Assignment, Decimals};
 use mysql_values::show::Shown;
 use std::alloc::{AllocError, Global};
 

@@ -211,12 +211,7 @@ pub fn used_values(
     } = values;
     for (assignment, origin) in assignments.into_iter().zip(origins) {
         if numbers.contains_key(assignment.name.as_slice()) {
-            used.add(
-                origin,
-                assignment.name,
-                assignment.value_type,
-                assignment.bytes,
-            )?;
+            used.add(origin, assignment)?;
         }
     }
     Ok(used)

@@ -1,5 +1,5 @@
 //! The rows of CSV and TSV, and of what MySQL servers and clients write.
-use crate::columns::{Column, Wanted, columns_of};
+use crate::columns::{Wanted, add_fixed, columns_of};
 use crate::complaint::{Complaint, Place, bad_file, one_fault};
 use crate::group_records::add_groups;
 use crate::progress::ROWS_AT_ONCE;
@@ -10,11 +10,11 @@ use crate::sources::unmarked;
 use crate::table_script::TableScript;
 use crate::values::Values;
 use mysql_bind_core::{
-    Cell, Failure, MatchedQuery, TableColumn, TableForm, TableRefusal, append_table,
-    assignments_of, line_and_column, record_cells,
+    Column, Failure, MatchedQuery, TableForm, TableRefusal, append_table, assignments_of,
+    line_and_column, record_cells, table_parts,
 };
 use mysql_records::{Fault, FaultKind, LentField, RecordError, RecordFormat, first_record_into};
-use std::alloc::{AllocError, Global};
+use std::alloc::Global;
 
 // What is said of a fault, and what to write instead.
 fn fault_text(format: RecordFormat, kind: FaultKind) -> &'static str {
@@ -166,60 +166,6 @@ impl<'t> Table<'t> {
     }
 }
 
-// The names that are bound in each row: those of the columns that are used, and those of the
-// values that are the same in each row.
-fn bound_names<'n>(
-    alloc: Global,
-    wanted: &'n Wanted<'_>,
-    columns: &'n [Column],
-) -> Result<Vec<&'n [u8]>, AllocError> {
-    let mut names = Vec::new(alloc);
-    for column in columns {
-        if let Some(name) = column.name.as_deref()
-            && column.used
-        {
-            names.push(name)?;
-        }
-    }
-    for fixed in wanted.fixed.assignments.as_slice() {
-        if wanted.numbers.contains_key(fixed.name.as_slice()) {
-            names.push(fixed.name.as_slice())?;
-        }
-    }
-    Ok(names)
-}
-
-// The cells of what is the same in each row.
-fn fixed_cells<'n>(alloc: Global, wanted: &'n Wanted<'_>) -> Result<Vec<Cell<'n>>, AllocError> {
-    let mut cells = Vec::new(alloc);
-    for fixed in wanted.fixed.assignments.as_slice() {
-        if wanted.numbers.contains_key(fixed.name.as_slice()) {
-            let bytes = fixed.bytes.as_slice();
-            cells.push(Cell {
-                value_type: fixed.value_type,
-                bytes,
-            })?;
-        }
-    }
-    Ok(cells)
-}
-
-/// The columns, in the form by which records are bound.
-pub fn table_columns<'c>(
-    alloc: Global,
-    columns: &'c [Column],
-) -> Result<Vec<TableColumn<'c>>, AllocError> {
-    let mut taken = Vec::with_capacity(alloc, columns.len())?;
-    for column in columns {
-        taken.push(TableColumn {
-            value_type: column.value_type,
-            null_text: column.null_text.as_deref(),
-            used: column.used,
-        })?;
-    }
-    Ok(taken)
-}
-
 // The table, and what is bound in each row.
 #[derive(Drop)]
 struct Bound<'b> {
@@ -283,7 +229,8 @@ fn table_refused(
         TableRefusal::Row { at, failure } => {
             row_refused(script, rt, bound, start.saturating_add(at), failure)
         }
-        TableRefusal::Memory(_) => Ok(Complaint::Memory),
+        // Each cell has its name.
+        TableRefusal::Cells { .. } | TableRefusal::Memory(_) => Ok(Complaint::Memory),
     }
 }
 
@@ -386,17 +333,18 @@ fn add_table(
     rest: &[u8],
 ) -> Result<(), Complaint> {
     let wanted = script.wanted;
-    let names = bound_names(rt.alloc(), wanted, columns)?;
-    let taken = table_columns(rt.alloc(), columns)?;
-    let fixed = fixed_cells(rt.alloc(), wanted)?;
+    let mut fixed = Vec::new(rt.alloc());
+    add_fixed(&mut fixed, rt.alloc(), wanted)?;
+    let parts = table_parts(rt.alloc(), columns, fixed.as_slice())?;
+    let names = parts.names.as_slice();
     let bound = Bound {
         table,
-        names: names.as_slice(),
-        query: matched_query(rt.alloc(), wanted, names.as_slice())?,
+        names,
+        query: matched_query(rt.alloc(), wanted, names)?,
         form: TableForm {
             format: table.format,
-            columns: taken.as_slice(),
-            fixed: fixed.as_slice(),
+            columns: parts.columns.as_slice(),
+            fixed: parts.fixed.as_slice(),
         },
     };
     add_rows(script, rt, &bound, rest)

@@ -1,9 +1,9 @@
 //! The command `rows`: the query once for each row of a table.
-use crate::column_words::ColumnWords;
+use crate::column_words::column_words;
 use crate::columns::Wanted;
 use crate::complaint::{Complaint, bad_word};
 use crate::group_words::{check_row, check_types, limits_of};
-use crate::json_members::Decimals;
+use crate::json_members::decimals_of;
 use crate::json_rows::add_objects;
 use crate::matching::{name_places, place_numbers};
 use crate::progress::Progress;
@@ -139,7 +139,7 @@ fn write_objects(
         rows: Vec::new(rt.alloc()),
         lines: Vec::new(rt.alloc()),
     };
-    let added = add_objects(&mut script, rt, Decimals::of(matches), bytes);
+    let added = add_objects(&mut script, rt, decimals_of(matches), bytes);
     script.progress.end(rt);
     match added {
         Ok(()) => script.finish(rt, matches.get_str("output")),
@@ -157,7 +157,7 @@ pub fn rows(rt: &HostRuntime, matches: &ArgMatches<'_>) -> Result<(), Complaint>
     let (form, path) = table_of(rt.alloc(), matches)?;
     check_options(rt.alloc(), matches, form)?;
     let limits = limits_of(rt.alloc(), matches)?;
-    let words = ColumnWords::new(rt.alloc(), matches)?;
+    let words = column_words(rt.alloc(), matches)?;
     if limits.is_some() {
         check_types(rt.alloc(), &words)?;
     }

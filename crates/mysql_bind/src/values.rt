@@ -1,9 +1,12 @@
 //! The assignments that the options make, and the messages about wrong ones.
 use crate::complaint::{Complaint, Fault, Place, add_fault, bad_file, bad_word, unusable};
-use crate::json_members::{Decimals, add_members};
+use crate::json_members::{add_members, decimals_of};
 use crate::sources::{Sources, read_variable, shown_path, unmarked};
 use clap::ArgMatches;
-use mysql_bind_core::{Assignment, ValueType, typed_fragment};
+use mysql_bind_core::{
+    Assignment, Decimals, OptionWord, ValueType, first_pair, pair_parts, set_assignment,
+    typed_fragment, word_assignment,
+};
 use std::alloc::{AllocError, Global};
 
 /// Assignments, and the origin of each: an option and a name, or a file.
@@ -25,21 +28,10 @@ impl Values {
     }
 
     /// Adds an assignment.
-    pub fn add(
-        &mut self,
-        origin: String,
-        name: Vec<u8>,
-        value_type: ValueType,
-        bytes: Vec<u8>,
-    ) -> Result<(), AllocError> {
+    pub fn add(&mut self, origin: String, assignment: Assignment) -> Result<(), AllocError> {
         if self.origins.push(origin).is_err() {
             return Err(AllocError);
         }
-        let assignment = Assignment {
-            name,
-            value_type,
-            bytes,
-        };
         match self.assignments.push(assignment) {
             Ok(()) => Ok(()),
             Err(_) => Err(AllocError),
@@ -50,25 +42,6 @@ impl Values {
 /// The names of the types, for messages.
 pub static TYPES: &str = "text, line, bytes, int, uint, bool, hex, base64, decimal, double, \
      identifier and list";
-
-/// The type with this name.
-pub fn type_of(word: &str) -> Option<ValueType> {
-    match word {
-        "text" => Some(ValueType::Text),
-        "line" => Some(ValueType::Line),
-        "bytes" => Some(ValueType::Bytes),
-        "int" => Some(ValueType::Int),
-        "uint" => Some(ValueType::Uint),
-        "bool" => Some(ValueType::Bool),
-        "hex" => Some(ValueType::Hex),
-        "base64" => Some(ValueType::Base64),
-        "decimal" => Some(ValueType::Decimal),
-        "double" => Some(ValueType::Double),
-        "identifier" => Some(ValueType::Identifier),
-        "list" => Some(ValueType::List),
-        _ => None,
-    }
-}
 
 /// The message about bytes that aren't valid for this type.
 pub fn wrong_value(value_type: ValueType) -> &'static str {
@@ -134,39 +107,17 @@ pub fn origin_at(values: &Values, number: usize) -> &str {
     }
 }
 
-// Name, type and what stands after the `=`.
-#[derive(Clone, Copy)]
-struct Parts<'a> {
-    name: &'a str,
-    value_type: ValueType,
-    rest: Option<&'a str>,
-}
-
-// The parts of what an option is given. What stands after the `=` is in no message.
-fn parts_of<'a>(alloc: Global, option: &str, word: &'a str) -> Result<Parts<'a>, Complaint> {
-    let (front, rest) = match word.split_once('=') {
-        Some((front, rest)) => (front, Some(rest)),
-        None => (word, None),
-    };
-    let (name, type_word) = match front.split_once(':') {
-        Some((name, type_word)) => (name, type_word),
-        None => (front, "text"),
-    };
-    match type_of(type_word) {
-        Some(value_type) => Ok(Parts {
-            name,
-            value_type,
-            rest,
-        }),
-        None if name.is_empty() => {
-            let what = format!(in alloc; "--{option}: write the name without its colon")?;
-            Err(unusable(alloc, Place::Words, what))
-        }
-        None => {
-            let what = format!(in alloc; "--{option}: the type after NAME: is one of {TYPES}")?;
-            Err(unusable(alloc, Place::Words, what))
-        }
+// The type that a word of an option names. What stands after the `=` is in no message.
+fn check_type(alloc: Global, option: &str, word: OptionWord<'_>) -> Result<(), Complaint> {
+    if word.value_type().is_some() {
+        return Ok(());
     }
+    let what = if word.name.is_empty() {
+        format!(in alloc; "--{option}: write the name without its colon")?
+    } else {
+        format!(in alloc; "--{option}: the type after NAME: is one of {TYPES}")?
+    };
+    Err(unusable(alloc, Place::Words, what))
 }
 
 // Where an assignment of an option comes from.
@@ -174,29 +125,27 @@ fn origin_of(alloc: Global, option: &str, name: &str) -> Result<String, AllocErr
     format!(in alloc; "--{option} {name}")
 }
 
-// Adds an assignment that comes from there.
-fn add_parts(
+// Adds the assignment of bytes to the name of a word, whose type was checked.
+fn add_word(
     values: &mut Values,
     alloc: Global,
     origin: String,
-    parts: Parts<'_>,
+    word: OptionWord<'_>,
     bytes: Vec<u8>,
-) -> Result<(), Complaint> {
-    let name = Vec::from_slice(alloc, parts.name.as_bytes())?;
-    values.add(origin, name, parts.value_type, bytes)?;
-    Ok(())
+) -> Result<(), AllocError> {
+    match word_assignment(alloc, word, bytes)? {
+        Some(assignment) => values.add(origin, assignment),
+        None => Ok(()),
+    }
 }
 
 // Adds what `--set` gives.
-fn add_set(values: &mut Values, rt: &HostRuntime, word: &str) -> Result<(), Complaint> {
-    let parts = parts_of(rt.alloc(), "set", word)?;
-    match parts.rest {
-        Some(text) => {
-            let bytes = Vec::from_slice(rt.alloc(), text.as_bytes())?;
-            let origin = origin_of(rt.alloc(), "set", parts.name)?;
-            add_parts(values, rt.alloc(), origin, parts, bytes)
-        }
-        None => Err(bad_word(rt.alloc(), "--set: write NAME=VALUE or NAME:TYPE=VALUE")),
+fn add_set(values: &mut Values, alloc: Global, text: &str) -> Result<(), Complaint> {
+    let word = OptionWord::new(text);
+    check_type(alloc, "set", word)?;
+    match set_assignment(alloc, text)? {
+        Some(assignment) => Ok(values.add(origin_of(alloc, "set", word.name)?, assignment)?),
+        None => Err(bad_word(alloc, "--set: write NAME=VALUE or NAME:TYPE=VALUE")),
     }
 }
 
@@ -205,35 +154,37 @@ fn add_file(
     values: &mut Values,
     sources: &mut Sources,
     rt: &HostRuntime,
-    word: &str,
+    text: &str,
 ) -> Result<(), Complaint> {
-    let parts = parts_of(rt.alloc(), "file", word)?;
-    match parts.rest {
+    let word = OptionWord::new(text);
+    check_type(rt.alloc(), "file", word)?;
+    match word.rest {
         Some(path) => {
             let bytes = sources.read(rt, path)?;
-            let origin = origin_of(rt.alloc(), "file", parts.name)?;
-            add_parts(values, rt.alloc(), origin, parts, bytes)
+            let origin = origin_of(rt.alloc(), "file", word.name)?;
+            Ok(add_word(values, rt.alloc(), origin, word, bytes)?)
         }
         None => Err(bad_word(rt.alloc(), "--file: write NAME=PATH or NAME:TYPE=PATH")),
     }
 }
 
 // Adds what `--env` gives.
-fn add_env(values: &mut Values, rt: &HostRuntime, word: &str) -> Result<(), Complaint> {
-    let parts = parts_of(rt.alloc(), "env", word)?;
-    let variable = match parts.rest {
+fn add_env(values: &mut Values, rt: &HostRuntime, text: &str) -> Result<(), Complaint> {
+    let word = OptionWord::new(text);
+    check_type(rt.alloc(), "env", word)?;
+    let variable = match word.rest {
         Some(variable) => variable,
-        None => parts.name,
+        None => word.name,
     };
     match read_variable(rt, variable)? {
         Some(bytes) => {
-            let origin = origin_of(rt.alloc(), "env", parts.name)?;
-            add_parts(values, rt.alloc(), origin, parts, bytes)
+            let origin = origin_of(rt.alloc(), "env", word.name)?;
+            Ok(add_word(values, rt.alloc(), origin, word, bytes)?)
         }
         None => {
             let what = format!(in rt.alloc();
                 "--env {}: the environment has no such variable",
-                parts.name
+                word.name
             )?;
             Err(unusable(rt.alloc(), Place::Words, what))
         }
@@ -246,8 +197,12 @@ fn add_null(values: &mut Values, alloc: Global, name: &str) -> Result<(), Compla
         return Err(bad_word(alloc, "--null: write NAME alone"));
     }
     let origin = origin_of(alloc, "null", name)?;
-    let name = Vec::from_slice(alloc, name.as_bytes())?;
-    values.add(origin, name, ValueType::Null, Vec::new(alloc))?;
+    let assignment = Assignment {
+        name: Vec::from_slice(alloc, name.as_bytes())?,
+        value_type: ValueType::Null,
+        bytes: Vec::new(alloc),
+    };
+    values.add(origin, assignment)?;
     Ok(())
 }
 
@@ -260,20 +215,21 @@ fn add_pair(
     pair: &[u8],
     number: usize,
 ) -> Result<(), Complaint> {
-    let Some(at) = pair.iter().position(|byte| *byte == b'=') else {
+    let Some((front, value)) = pair_parts(pair) else {
         let what = format!(in alloc;
             "pair {number} has no `=`: write NAME=VALUE, and a byte 0 after it"
         )?;
         return Err(bad_file(alloc, path, what.as_str()));
     };
-    let Ok(front) = std::str::from_utf8(&pair[..at]) else {
+    let Ok(front) = std::str::from_utf8(front) else {
         let what = format!(in alloc; "the name of pair {number} is not UTF-8")?;
         return Err(bad_file(alloc, path, what.as_str()));
     };
-    let parts = parts_of(alloc, "pairs", front)?;
-    let bytes = Vec::from_slice(alloc, &pair[at + 1..])?;
+    let word = OptionWord::new(front);
+    check_type(alloc, "pairs", word)?;
+    let bytes = Vec::from_slice(alloc, value)?;
     let origin = format!(in alloc; "{path}: pair {number}")?;
-    add_parts(values, alloc, origin, parts, bytes)
+    Ok(add_word(values, alloc, origin, word, bytes)?)
 }
 
 // Adds what `--pairs` gives.
@@ -291,16 +247,16 @@ fn add_pairs(
         if rest.is_empty() {
             break;
         }
-        let Some(at) = rest.iter().position(|byte| *byte == 0) else {
+        let Some((pair, more)) = first_pair(rest) else {
             return Err(bad_file(
                 rt.alloc(),
                 shown_path(path),
                 "no byte 0 ends the last pair: is it whole?",
             ));
         };
-        add_pair(values, rt.alloc(), shown_path(path), &rest[..at], number)?;
+        add_pair(values, rt.alloc(), shown_path(path), pair, number)?;
         number = number.saturating_add(1);
-        rest = &rest[at + 1..];
+        rest = more;
     }
     Ok(())
 }
@@ -313,7 +269,7 @@ fn add_options(
     matches: &ArgMatches<'_>,
 ) -> Result<(), Complaint> {
     for word in matches.get_strs("set").unwrap_or(&[]) {
-        add_set(values, rt, word)?;
+        add_set(values, rt.alloc(), word)?;
     }
     for word in matches.get_strs("file").unwrap_or(&[]) {
         add_file(values, sources, rt, word)?;
@@ -358,7 +314,7 @@ pub fn values_of(
     let mut values = Values::new(rt.alloc());
     add_options(&mut values, sources, rt, matches)?;
     if let Some(paths) = matches.get_strs("json") {
-        add_json(&mut values, sources, rt, paths, Decimals::of(matches))?;
+        add_json(&mut values, sources, rt, paths, decimals_of(matches))?;
     }
     for path in matches.get_strs("pairs").unwrap_or(&[]) {
         add_pairs(&mut values, sources, rt, path)?;

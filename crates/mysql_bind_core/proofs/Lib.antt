@@ -29,6 +29,11 @@ pub mod TableLemmas
 pub mod RowItemLemmas
 pub mod GroupLemmas
 pub mod GroupScriptLemmas
+pub mod CountLemmas
+pub mod ColumnLemmas
+pub mod RecordValueLemmas
+pub mod JsonMemberLemmas
+pub mod OptionWordLemmas
 pub mod FewerRowLemmas
 pub mod FewerEntryLemmas
 pub mod FewerTextLemmas

@@ -12,12 +12,12 @@ use Rattle.mysql_records.specs.declared.fault.Fault.{Fault}
 use Rattle.mysql_records.specs.declared.format.RecordFormat.{RecordFormat}
 use Rattle.mysql_records.specs.declared.lent.LentField.{LentField}
 use Rattle.mysql_records.proofs.TableLemmas.{ReadRows, rows_fault, rows_more, rows_none}
-use Rattle.mysql_bind_core.specs.Cells.{TableQuery, cells_said}
+use Rattle.mysql_bind_core.specs.Cells.{Said, TableQuery, cells_said}
 use Rattle.mysql_bind_core.specs.RowTexts.{IsRowRefusal, IsRowText}
 use Rattle.mysql_bind_core.specs.declared.cell.Cell.{Cell}
 use Rattle.mysql_bind_core.specs.declared.failure.Failure.{Failure}
 use Rattle.mysql_bind_core.specs.Scripts.{AreStatements, AreWritten, script, statement}
-use Rattle.mysql_bind_core.specs.Tables.{AreAppended, AreCellsOf, AreRecordTexts, AreRowsOf, BeginsWithRecords, no_records, more_records, Fields, IsFaultBehind, IsRecordAt, IsRecordRefusal, IsRecordText, IsRefusedAt, cell_said, column_said, fields_said}
+use Rattle.mysql_bind_core.specs.Tables.{AreAppended, AreCellsOf, AreRecordTexts, AreRowsOf, BeginsWithRecords, no_records, more_records, Fields, IsFaultBehind, IsRecordAt, IsRecordRefusal, IsRecordText, IsRefusedAt, IsTableMatched, IsTableRefused, of_record, cell_said, column_said, fields_said, said_under}
 use Rattle.mysql_bind_core.specs.declared.row.Row.{Row}
 use Rattle.mysql_bind_core.specs.declared.table_form.TableColumn.{TableColumn}
 use Rattle.mysql_bind_core.specs.declared.table_form.TableForm.{TableForm}
@@ -115,33 +115,30 @@ cells_of_record form fields i cells all past are so_far =
     ∙ ap (λ said. map cell_said cells ++ said) (sym (all_said form.columns.now (lent_fields_seen fields) i (omega (arith, past, length-map fields lent_seen))))
     ∙ so_far)
 
--- ---- cells that say the same
+-- ---- the values of a record
 
-same_said : (names : List (List ℕ)) (cells others : List Cell) → map cell_said cells ≡ map cell_said others → cells_said names cells ≡ cells_said names others
-same_said [] cells others e = refl
-same_said (n ∷ ns) [] [] e = refl
-same_said (n ∷ ns) [] (o ∷ os) e = cc
-same_said (n ∷ ns) (c ∷ cs) [] e = cc
-same_said (n ∷ ns) (c ∷ cs) (o ∷ os) e =
-    let head : cell_said c ≡ cell_said o = cc in
-    let tail : map cell_said cs ≡ map cell_said os = cc in
-    ap (λ said. (n, said) ∷ cells_said ns cs) head ∙ ap (λ saids. (n, cell_said o) ∷ saids) (same_said ns cs os tail)
+-- the contents of cells under names
+pub said_cells : (names : List (List ℕ)) (cells : List Cell) → cells_said names cells ≡ said_under names (map cell_said cells)
+said_cells [] cells = refl
+said_cells (n ∷ ns) [] = refl
+said_cells (n ∷ ns) (c ∷ cs) = ap (λ (said : List Said). (n, cell_said c) ∷ said) (said_cells ns cs)
 
--- what is written for some cells of a record is written for all
+-- what is written for some cells of a record is written for its values
 pub text_of_record : (query : TableQuery) (form : TableForm) (fields : Fields) (cells : List Cell) (text : List ℕ) →
     AreCellsOf form fields cells → IsRowText query cells text → IsRecordText query form fields text
-text_of_record query form fields cells text are written = λ others also assignments assigned.
-    written assignments (assigned ∙ same_said query.columns others cells (also ∙ sym are))
+text_of_record query form fields cells text are written = λ assignments said.
+    written assignments (said ∙ ap (said_under query.columns) (sym are) ∙ sym (said_cells query.columns cells))
 
 pub refusal_of_record : (query : TableQuery) (form : TableForm) (fields : Fields) (cells : List Cell) (why : Failure) →
     AreCellsOf form fields cells → IsRowRefusal query cells why → IsRecordRefusal query form fields why
-refusal_of_record query form fields cells why are refused = λ others also assignments assigned.
-    refused assignments (assigned ∙ same_said query.columns others cells (also ∙ sym are))
+refusal_of_record query form fields cells why are refused = λ assignments said.
+    refused assignments (said ∙ ap (said_under query.columns) (sym are) ∙ sym (said_cells query.columns cells))
 
 -- ---- the statements of records
 
-pub appended_none : (query : TableQuery) (form : TableForm) (text before : List ℕ) → AreAppended query form text [] text before before
-appended_none query form text before = record {
+pub appended_none : (query : TableQuery) (form : TableForm) (text before : List ℕ) → IsTableMatched query form text → AreAppended query form text [] text before before
+appended_none query form text before of = record {
+  of = of;
   read = no_records text;
   lengths = λ k d h. absurd (omega arith);
   texts = [];
@@ -166,8 +163,8 @@ pub record SoFar (query : TableQuery) (form : TableForm) (text rest before after
   pub appended : AreAppended query form text records rest before after
   pub number : length records ≡ count
 
-pub so_far_none : (query : TableQuery) (form : TableForm) (text before : List ℕ) → SoFar query form text text before before 0
-so_far_none query form text before = record { records = []; appended = appended_none query form text before; number = refl }
+pub so_far_none : (query : TableQuery) (form : TableForm) (text before : List ℕ) → IsTableMatched query form text → SoFar query form text text before before 0
+so_far_none query form text before of = record { records = []; appended = appended_none query form text before of; number = refl }
 
 pub so_far_fits : (query : TableQuery) (form : TableForm) (text rest before after : List ℕ) (count : ℕ) → SoFar query form text rest before after count →
     length rest ≤ length text
@@ -180,6 +177,7 @@ pub appended_more : (query : TableQuery) (form : TableForm) (text : List ℕ) (r
     length fields ≡ length form.columns.now → IsRecordText query form fields bound → after ≡ script_so_far ++ statement bound →
     AreAppended query form text (rows ++ fields ∷ []) rest before after
 appended_more query form text rows back before script_so_far fields rest after bound so_far first as_many written is = record {
+  of = so_far.of;
   read = read_more form.format text rows back fields rest so_far.read first;
   lengths = All-append (λ fs. length fs ≡ length form.columns.now) rows (fields ∷ []) so_far.lengths
       (all_one (λ fs. length fs ≡ length form.columns.now) fields as_many);
@@ -215,7 +213,7 @@ statements_of query form text records_read rest before after rows all are =
     written (f ∷ fs) [] ts rows_are texts_are = absurd rows_are
     written (f ∷ fs) (r ∷ rs) [] rows_are texts_are = absurd texts_are
     written (f ∷ fs) (r ∷ rs) (t ∷ ts) rows_are texts_are = (
-      texts_are.0 rows_are.0.0 rows_are.0.1 r.assignments.items rows_are.0.2,
+      texts_are.0 r.assignments.items rows_are.0,
       written fs rs ts rows_are.1 texts_are.1,
     )
 
@@ -235,17 +233,12 @@ fault_behind form text rows rest found fault h f at kind = record {
   none = f.none;
 }
 
--- what is told of a refusal: the statements of the records before, and why the next one has none
-abbrev pub Refused : TableQuery → TableForm → List ℕ → List ℕ → List ℕ → ℕ → TableRefusal → Type 0
-Refused query form text before after most e = (records : List Fields) × (rest : List ℕ) × AreAppended query form text records rest before after
-    × (length records < most) × IsRefusedAt query form text rest e
-
 pub text_refused : (query : TableQuery) (form : TableForm) (text rest before after : List ℕ) (count most : ℕ) (e : TableRefusal) →
     SoFar query form text rest before after count → count < most →
     ((q : TableQuery) (records : List Fields) → BeginsWithRecords form.format text records rest → IsRefusedAt q form text rest e) →
-    Refused query form text before after most e
+    IsTableRefused query form text before after most e
 text_refused query form text rest before after count most e h below why =
-    (h.records, rest, h.appended, omega (arith, h.number, below), why query h.records h.appended.read)
+    of_record h.records rest h.appended (omega (arith, h.number, below)) (why query h.records h.appended.read)
 
 record_at : (query : TableQuery) (form : TableForm) (text rest before after : List ℕ) (count : ℕ) (fields : Fields) (more : List ℕ) (at : ℕ) →
     SoFar query form text rest before after count → BeginsWithRecord form.format rest fields more → at ≡ length text - length rest →
@@ -256,23 +249,16 @@ record_at query form text rest before after count fields more at h first is =
 pub length_refused : (query : TableQuery) (form : TableForm) (text rest before after : List ℕ) (count most : ℕ) (fields : Fields) (more : List ℕ) (at number : ℕ) →
     SoFar query form text rest before after count → count < most → BeginsWithRecord form.format rest fields more → at ≡ length text - length rest →
     length fields ≡ number → number ≢ length form.columns.now →
-    Refused query form text before after most (refusal.Length at number)
-length_refused query form text rest before after count most fields more at number h below first is long differs = (
-  h.records,
-  rest,
-  h.appended,
-  omega (arith, h.number, below),
-  (fields, record_at query form text rest before after count fields more at h first is, long, differs),
-)
+    IsTableRefused query form text before after most (refusal.Length at number)
+length_refused query form text rest before after count most fields more at number h below first is long differs =
+    of_record h.records rest h.appended (omega (arith, h.number, below))
+    (fields, record_at query form text rest before after count fields more at h first is, long, differs)
 
 pub row_refused : (query : TableQuery) (form : TableForm) (text rest before so_far after : List ℕ) (count most : ℕ) (fields : Fields) (more : List ℕ) (at : ℕ) (why : Failure) →
     SoFar query form text rest before so_far count → count < most → BeginsWithRecord form.format rest fields more → at ≡ length text - length rest →
     length fields ≡ length form.columns.now → IsRecordRefusal query form fields why → after ≡ so_far →
-    Refused query form text before after most (refusal.Row at why)
-row_refused query form text rest before so_far after count most fields more at why h below first is as_many refused kept = (
-  h.records,
-  rest,
-  subst (λ s. AreAppended query form text h.records rest before s) (sym kept) h.appended,
-  omega (arith, h.number, below),
-  (fields, record_at query form text rest before so_far count fields more at h first is, as_many, refused),
-)
+    IsTableRefused query form text before after most (refusal.Row at why)
+row_refused query form text rest before so_far after count most fields more at why h below first is as_many refused kept =
+    of_record h.records rest (subst (λ s. AreAppended query form text h.records rest before s) (sym kept) h.appended)
+    (omega (arith, h.number, below))
+    (fields, record_at query form text rest before so_far count fields more at h first is, as_many, refused)

@@ -16,8 +16,12 @@ pub mod Statements
 pub mod Scripts
 pub mod ScriptTokens
 pub mod Tables
+pub mod Headers
+pub mod OptionWords
+pub mod JsonValues
 pub mod RowItems
 pub mod RowsBound
 pub mod Groups
 pub mod GroupSearch
+pub mod JsonMembers
 pub mod UniqueGroups

@@ -1,14 +1,16 @@
 -- The statements of a table's records: the cells of a record, the records of a text up to a rest,
 -- and why the next one has no statement.
-use Rattle.std.specs.Prelude.{◌≡◌, ◌≢◌, ◌+◌, ◌≤◌, ℕ, Bool, false, List, [], ◌∷◌, ◌++◌, Option, Some, None, length, map, drop, All, if◌then◌else◌, ⊤}
+use Rattle.std.specs.Prelude.{◌≡◌, ◌≢◌, ◌+◌, ◌<◌, ◌≤◌, ◌^◌, ℕ, Bool, false, List, [], ◌∷◌, ◌++◌, Option, Some, None, length, map, drop, All, if◌then◌else◌, ⊤}
 use Rattle.std.specs.Borrow.{Bor}
 use Rattle.std.specs.Str.{bytes_eq}
 use Rattle.mysql_records.specs.Faults.{IsFaultyTable}
 use Rattle.mysql_records.specs.Records.{BeginsWithRecord}
 use Rattle.mysql_records.specs.declared.fault.Fault.{Fault}
 use Rattle.mysql_records.specs.declared.format.RecordFormat.{RecordFormat}
-use Rattle.mysql_bind_core.specs.Cells.{AreAssigned, TableQuery}
-use Rattle.mysql_bind_core.specs.RowTexts.{IsRowRefusal, IsRowText}
+use Rattle.mysql_bind_core.specs.Bound.{IsWritten}
+use Rattle.mysql_bind_core.specs.Cells.{Said, TableQuery, assignment_said}
+use Rattle.mysql_bind_core.specs.Refusals.{IsRefusal}
+use Rattle.mysql_bind_core.specs.declared.assignment.Assignment.{Assignment}
 use Rattle.mysql_bind_core.specs.declared.cell.Cell.{Cell}
 use Rattle.mysql_bind_core.specs.declared.failure.Failure.{Failure}
 use Rattle.mysql_bind_core.specs.declared.value_type.ValueType.{ValueType}
@@ -57,21 +59,59 @@ fields_said (column ∷ columns) [] = []
 fields_said (column ∷ columns) (field ∷ fields) =
     column_said column field ++ fields_said columns fields
 
--- the cells say the same as the fields of a record, and then the same as the cells of each row
+-- the contents of the cells of a record: those of its fields, and then those of the cells that are
+-- the same in each row
+abbrev pub record_said : TableForm → Fields → List CellSaid
+record_said form fields =
+    fields_said form.columns.now fields ++ map cell_said form.fixed.now
+
+-- the cells say the same as a record
 abbrev pub AreCellsOf : TableForm → Fields → List Cell → Type 0
-AreCellsOf form fields cells =
-    map cell_said cells
-    ≡ fields_said form.columns.now fields ++ map cell_said form.fixed.now
+AreCellsOf form fields cells = map cell_said cells ≡ record_said form fields
 
--- the text is written for the cells of a record
+-- ---- the values of a record
+
+-- the contents of cells, each under the name of the same number
+abbrev pub said_under : List (List ℕ) → List CellSaid → List Said
+said_under [] cells = []
+said_under (name ∷ names) [] = []
+said_under (name ∷ names) (cell ∷ cells) = (name, cell) ∷ said_under names cells
+
+-- the assignments say the same as a record, under the names with which the query is matched
+abbrev pub AreValuesOf : TableQuery → TableForm → Fields → List Assignment → Type 0
+AreValuesOf query form fields assignments =
+    map assignment_said assignments ≡ said_under query.columns (record_said form fields)
+
+-- the text is written for the values of a record
 abbrev pub IsRecordText : TableQuery → TableForm → Fields → List ℕ → Type 0
-IsRecordText query form fields text =
-    (cells : List Cell) → AreCellsOf form fields cells → IsRowText query cells text
+IsRecordText query form fields text = (assignments : List Assignment) →
+    AreValuesOf query form fields assignments →
+    IsWritten query.request query.query assignments text
 
--- why nothing is written for the cells of a record
+-- why nothing is written for the values of a record
 abbrev pub IsRecordRefusal : TableQuery → TableForm → Fields → Failure → Type 0
-IsRecordRefusal query form fields why =
-    (cells : List Cell) → AreCellsOf form fields cells → IsRowRefusal query cells why
+IsRecordRefusal query form fields why = (assignments : List Assignment) →
+    AreValuesOf query form fields assignments →
+    IsRefusal query.request query.query assignments why
+
+-- how many of the columns are used
+abbrev pub used_count : List TableColumn → ℕ
+used_count [] = 0
+used_count (column ∷ columns) =
+    if column.used then used_count columns + 1 else used_count columns
+
+-- how many cells each record has
+abbrev pub cell_count : TableForm → ℕ
+cell_count form = used_count form.columns.now + length form.fixed.now
+
+-- The query is matched with one name for each cell of a record. The names, the bytes of the cells
+-- that are the same in each row, and the text fit into memory.
+pub record IsTableMatched (query : TableQuery) (form : TableForm) (text : List ℕ) : Type 0 where
+  pub as_many : length query.columns ≡ cell_count form
+  pub few : length query.columns < 2 ^ 63
+  pub names_fit : All (λ name. length name < 2 ^ 63) query.columns
+  pub fixed_fit : All (λ (cell : Cell). length cell.bytes.now < 2 ^ 63) form.fixed.now
+  pub text_fits : length text < 2 ^ 63
 
 -- ---- the records of a text
 
@@ -96,20 +136,19 @@ AreRecordTexts query form (fields ∷ records) [] = ⊥
 -- is behind them. A script gets their statements behind its earlier bytes, and nothing else.
 pub record AreAppended (query : TableQuery) (form : TableForm) (text : List ℕ)
     (records : List Fields) (rest before after : List ℕ) : Type 0 where
+  pub of : IsTableMatched query form text
   pub read : BeginsWithRecords form.format text records rest
   pub lengths : All (λ fields. length fields ≡ length form.columns.now) records
   pub texts : List (List ℕ)
   pub written : AreRecordTexts query form records texts
   pub bytes : after ≡ before ++ script texts
 
--- the assignments of each row say the same as the cells of the record of the same number, and there
--- are no other rows
+-- the assignments of each row say the same as the record of the same number, and there are no
+-- other rows
 abbrev pub AreRowsOf : TableQuery → TableForm → List Fields → List Row → Type 0
 AreRowsOf query form [] [] = ⊤
 AreRowsOf query form (fields ∷ records) (row ∷ rows) =
-    ((cells : List Cell) × AreCellsOf form fields cells
-    × AreAssigned query.columns cells row.assignments.items)
-    × AreRowsOf query form records rows
+    AreValuesOf query form fields row.assignments.items × AreRowsOf query form records rows
 AreRowsOf query form [] (row ∷ rows) = ⊥
 AreRowsOf query form (fields ∷ records) [] = ⊥
 
@@ -140,4 +179,18 @@ IsRefusedAt query form text rest (refusal.Length at number) =
 IsRefusedAt query form text rest (refusal.Row at why) =
     (fields : Fields) × IsRecordAt form text rest at fields
     × (length fields ≡ length form.columns.now) × IsRecordRefusal query form fields why
+IsRefusedAt query form text rest (refusal.Cells cells) = ⊥
 IsRefusedAt query form text rest (refusal.Memory error) = ⊤
+
+-- why not all records that are asked for have a statement, or out of memory
+pub data IsTableRefused (query : TableQuery) (form : TableForm) (text before after : List ℕ)
+    (most : ℕ) (why : TableRefusal) : Type 0 where
+  -- the query is matched with names for another number of cells, and nothing is appended
+  of_cells : (cells : ℕ) → why ≡ refusal.Cells cells → cells ≡ cell_count form →
+      cells ≢ length query.columns → after ≡ before →
+      IsTableRefused query form text before after most why
+  -- these records have statements, and the next one has none
+  of_record : (records : List Fields) (rest : List ℕ) →
+      AreAppended query form text records rest before after → length records < most →
+      IsRefusedAt query form text rest why →
+      IsTableRefused query form text before after most why

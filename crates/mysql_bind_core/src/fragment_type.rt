@@ -165,7 +165,7 @@ fn double_item(text: &[u8]) -> Option<Item>
 }
 
 // Whether the text has an `e` or an `E`.
-fn has_exponent(text: &[u8]) -> bool
+pub(crate) fn has_exponent(text: &[u8]) -> bool
     ensures { result ≡ has_exponent text.now }
 {
     text.iter().any(|byte| *byte == b'e' || *byte == b'E')

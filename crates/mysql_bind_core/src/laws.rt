@@ -19,6 +19,7 @@ ghost use Rattle.mysql_bind_core.specs.declared.request.Request.{Request};
 
 mod groups;
 mod scripts;
+mod tables;
 
 pub use groups::groups_are_unique;
 use mysql_binding::laws::{bound_texts_are_sent, bound_texts_in_clients};
@@ -34,6 +35,7 @@ pub use scripts::{
     tokens_of_scripts,
 };
 use std::alloc::Global;
+pub use tables::tables_give_values;
 
 /// Unless all queries are taken, the written text has as many statements as the query, cut by a
 /// client that keeps comments. The assignments don't change that number (`count`).

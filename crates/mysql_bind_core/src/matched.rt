@@ -1,6 +1,6 @@
 //! A query whose places are matched with the columns of a table, once for all rows. Each row is
 //! bound from its cells, which borrow their bytes.
-ghost use Rattle.std.specs.Prelude.{◌≡◌, ◌++◌, ◌<◌, ◌⊎◌, ℕ, false, true, List, length, map, Some, IfOk, IfErr, IfSome, IsErrOf, IsTrue, IsFalse, OnErr, OnOk, alloc_error};
+ghost use Rattle.std.specs.Prelude.{◌≡◌, ◌++◌, ◌<◌, ◌^◌, ◌⊎◌, ℕ, false, true, List, All, length, map, Some, IfOk, IfErr, IfSome, IsErrOf, IsTrue, IsFalse, OnErr, OnOk, alloc_error};
 ghost use Rattle.std.specs.List.{slice_get};
 ghost use Rattle.mysql_values.specs.BorrowedValue.{owned_values};
 ghost use Rattle.mysql_named_params.specs.Reading.{OnWideTokens};
@@ -107,6 +107,15 @@ impl<'q, 'c> MatchedQuery<'q, 'c> {
         }
     }
 
+    // How many columns there are. Their names fit into memory.
+    pub(crate) fn column_count(&self) -> usize
+        ensures count { result ≡ length self.now.columns }
+        ensures few { result < 2 ^ 63 }
+        ensures fit { All (λ name. length name < 2 ^ 63) self.now.columns }
+    {
+        name_count(self.columns)
+    }
+
     // The same for assignments that are made of the cells.
     fn append_assigned(
         &self,
@@ -190,6 +199,25 @@ impl<'q, 'c> MatchedQuery<'q, 'c> {
         self.taken
             .append_found(alloc, PlaceValues::Listed(placed), script)
     }
+}
+
+// How many names there are. The length of each is read: so they fit into memory.
+fn name_count(names: &[&[u8]]) -> usize
+    ensures count { result ≡ length (referents names.now) }
+    ensures few { result < 2 ^ 63 }
+    ensures fit { All (λ name. length name < 2 ^ 63) (referents names.now) }
+{
+    for i in 0..names.len() {
+        note_length(names[i]);
+    }
+    names.len()
+}
+
+// Reads the length of bytes: so they fit into memory.
+pub(crate) fn note_length(bytes: &[u8])
+    ensures { length bytes.now < 2 ^ 63 }
+{
+    let _length = bytes.len();
 }
 
 /// The assignments of the cells of a row to the names of their columns. A name without a cell and a

@@ -30,6 +30,13 @@ pub struct TableForm<'a> {
 /// Why the first record without a statement has none. The records before it have one.
 #[derive(Debug, PartialEq, Drop)]
 pub enum TableRefusal {
+    /// The query isn't matched with one name for each cell of a record. Nothing is appended, also
+    /// if there are no records.
+    Cells {
+        /// How many cells each record has: one for each column that is used, and those that are the
+        /// same in each row.
+        cells: usize,
+    },
     /// The text doesn't consist of records. Its first fault is reported.
     Record(Fault),
     /// The number of the record's fields isn't the number of columns.

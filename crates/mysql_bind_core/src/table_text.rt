@@ -1,14 +1,15 @@
 //! The statements of a table's records, from the bytes of the table.
-ghost use Rattle.std.specs.Prelude.{◌≡◌, ◌≢◌, ◌++◌, ◌<◌, ◌≤◌, ℕ, List, [], length, map, IfErr, IfNone, IfOk, IfSome, OnErr, OnOk};
+ghost use Rattle.std.specs.Prelude.{◌≡◌, ◌≢◌, ◌∷◌, ◌++◌, ◌<◌, ◌≤◌, ◌^◌, ℕ, List, [], All, length, map, IfErr, IfNone, IfOk, IfSome, OnErr, OnOk};
 ghost use Rattle.mysql_records.specs.Records.{BeginsWithRecord};
 ghost use Rattle.mysql_records.specs.Seen.{lent_fields_seen, lent_seen};
 ghost use Rattle.mysql_bind_core.specs.Cells.{TableQuery};
 ghost use Rattle.mysql_bind_core.specs.Scripts.{statement};
-ghost use Rattle.mysql_bind_core.specs.Tables.{AreAppended, AreCellsOf, BeginsWithRecords, Fields, IsRecordRefusal, IsRecordText, IsRefusedAt, cell_said, column_said, field_said};
+ghost use Rattle.mysql_bind_core.specs.Tables.{AreAppended, AreCellsOf, BeginsWithRecords, Fields, IsRecordRefusal, IsRecordText, IsRefusedAt, IsTableMatched, IsTableRefused, cell_count, cell_said, column_said, field_said, used_count};
+ghost use Rattle.mysql_bind_core.specs.declared.cell.Cell as declared;
 
 use crate::cell::Cell;
 use crate::failure::Failure;
-use crate::matched::MatchedQuery;
+use crate::matched::{MatchedQuery, note_length};
 use crate::table::append_record;
 use crate::table_form::{TableColumn, TableForm, TableRefusal};
 use crate::value_type::ValueType;
@@ -19,6 +20,10 @@ use std::alloc::{AllocError, Global};
 /// most `most` of them. It returns the text behind these records, which is empty if all records
 /// have a statement. The statement of a record is the one that [`append_record`] appends for its
 /// cells.
+///
+/// The query has to be matched with one name for each cell of a record: the names of the columns
+/// that are used, and then those of the cells that are the same in each row. The cell of each
+/// number is assigned to the name of the same number.
 ///
 /// If a record is refused, the script keeps the statements of the records before it. A refusal's
 /// indices are in `text`.
@@ -33,10 +38,10 @@ pub fn append_table<'t>(
     ensures appended { IfOk result (λ rest. (records : List Fields)
         × AreAppended query.now form.now text.now records rest.now script.old.items script.new.items
         × (length records ≤ most) × (rest.now ≢ [] → length records ≡ most)) }
-    ensures refused { IfErr result (λ e. (records : List Fields) × (rest : List ℕ)
-        × AreAppended query.now form.now text.now records rest script.old.items script.new.items
-        × (length records < most) × IsRefusedAt query.now form.now text.now rest e) }
+    ensures refused { IfErr result (IsTableRefused query.now form.now text.now script.old.items
+        script.new.items most) }
 {
+    check_names(query, form, text)?;
     let mut fields = Vec::new(alloc);
     let mut rest = text;
     for _count in 0..most {
@@ -54,6 +59,64 @@ pub fn append_table<'t>(
         rest = more;
     }
     Ok(rest)
+}
+
+// Refuses a query that isn't matched with one name for each cell of a record.
+fn check_names(
+    query: &MatchedQuery<'_, '_>,
+    form: &TableForm<'_>,
+    text: &[u8],
+) -> Result<(), TableRefusal>
+    ensures matched { OnOk result (IsTableMatched query.now form.now text.now) }
+    ensures refused { IfErr result (λ e. (cells : ℕ) × (e ≡ TableRefusal.Cells cells)
+        × (cells ≡ cell_count form.now) × (cells ≢ length query.now.columns)) }
+{
+    let _length = text.len();
+    let cells = cell_count(form);
+    if query.column_count() != cells {
+        return Err(TableRefusal::Cells { cells });
+    }
+    Ok(())
+}
+
+// How many cells each record has.
+fn cell_count(form: &TableForm<'_>) -> usize
+    ensures count { result ≡ cell_count form.now }
+    ensures fit { All (λ (cell : declared.Cell). length cell.bytes.now < 2 ^ 63)
+        form.now.fixed.now }
+{
+    used_count(form.columns) + fixed_count(form.fixed)
+}
+
+// How many of the columns are used.
+fn used_count(columns: &[TableColumn<'_>]) -> usize
+    ensures count { result ≡ used_count columns.now }
+    ensures most { result ≤ length columns.now }
+{
+    let mut count = 0usize;
+    for i in 0..columns.len() {
+        count += one_if_used(columns[i]);
+    }
+    count
+}
+
+// 1 for a column that is used, and 0 for another.
+fn one_if_used(counted: TableColumn<'_>) -> usize
+    ensures count { result ≡ used_count (counted.entry ∷ []) }
+    ensures most { result ≤ 1 }
+{
+    if counted.used { 1 } else { 0 }
+}
+
+// How many cells there are. The length of each one's bytes is read: so they fit into memory.
+fn fixed_count(cells: &[Cell<'_>]) -> usize
+    ensures count { result ≡ length cells.now }
+    ensures fit { All (λ (cell : declared.Cell). length cell.bytes.now < 2 ^ 63) cells.now }
+{
+    for i in 0..cells.len() {
+        note_length(cells[i].bytes);
+    }
+    cells.len()
 }
 
 // Reads the record at the front of the rest of a text. Its fields replace those of the vector. It

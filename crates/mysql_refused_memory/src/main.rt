@@ -8,6 +8,7 @@ mod bind_inputs;
 mod bind_rows_cases;
 mod binding_cases;
 mod borrowed_cases;
+mod column_cases;
 mod conversion_cases;
 mod copy_cases;
 mod fixed_query_cases;
@@ -133,6 +134,9 @@ fn bind_case(alloc: Global, name: &str) -> Option<Case> {
         return Some(case);
     }
     if let Some(case) = group_cases::case(alloc, name) {
+        return Some(case);
+    }
+    if let Some(case) = column_cases::case(alloc, name) {
         return Some(case);
     }
     bind_rows_cases::case(alloc, name)

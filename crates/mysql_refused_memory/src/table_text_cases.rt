@@ -1,6 +1,6 @@
 //! The statements of a table's records, from its bytes: `append_table`.
 use crate::bind_inputs::{STEADY, is_memory};
-use crate::outcome::{Case, Memory, Outcome, cases, judged, row};
+use crate::outcome::{Case, Memory, Outcome, cases, holds, judged, row};
 use mysql_bind_core::ValueType::{Int, Text};
 use mysql_bind_core::{
     Cell, Failure, MatchedQuery, TableColumn, TableForm, TableRefusal, append_table,
@@ -10,6 +10,9 @@ use std::alloc::Global;
 
 /// How the call of this name went, if it stands here.
 pub(crate) fn case(alloc: Global, name: &str) -> Option<Case> {
+    if name == "append_table of fewer cells than names" {
+        return Some(fewer_cells(alloc));
+    }
     let row = row(TABLES, name)?;
     Some(appended(alloc, row))
 }
@@ -115,6 +118,24 @@ fn appended(alloc: Global, (format, text, most, statements, wanted, memory): Tab
         }
     };
     Ok(outcome.with(memory))
+}
+
+/// A form without what is the same in each row, which has no cell for the name `b`.
+fn fewer_cells(alloc: Global) -> Case {
+    let form = TableForm {
+        format: Csv,
+        columns: COLUMNS,
+        fixed: &[],
+    };
+    let query = match MatchedQuery::with_columns(alloc, QUERY, NAMES, STEADY) {
+        Ok(query) => query,
+        Err(Failure::Memory(error)) => return Err(error),
+        Err(_) => return Ok(Outcome::Wrong),
+    };
+    let mut script = Vec::from_slice(alloc, BEFORE)?;
+    let answer = append_table(alloc, &query, &form, b"1,x,y\n", usize::MAX, &mut script);
+    let is_refused = answer == Err(TableRefusal::Cells { cells: 2 });
+    holds(is_refused && script.as_slice() == BEFORE)
 }
 
 /// Whether the refusal is out of memory.

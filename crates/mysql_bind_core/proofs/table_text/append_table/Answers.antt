@@ -4,17 +4,25 @@ use Rattle.std.proofs.lemmas.List.{length-map}
 use Rattle.mysql_records.specs.Records.{BeginsWithRecord}
 use Rattle.mysql_records.specs.Seen.{lent_fields_seen, lent_seen}
 use Rattle.mysql_binding.proofs.AppendedTextLemmas.{handed_on}
-use Rattle.mysql_bind_core.proofs.TableLemmas.{Refused, length_refused, row_refused, so_far_fits, so_far_more, so_far_none, text_refused}
+use Rattle.mysql_bind_core.specs.Tables.{IsTableRefused, of_cells}
+use Rattle.mysql_bind_core.proofs.TableLemmas.{length_refused, row_refused, so_far_fits, so_far_more, so_far_none, text_refused}
 use Rattle.mysql_bind_core.proofs.table_text.append_table.Goals as goal
 
 pub loop-count-init : goal.loop-count-init
-loop-count-init c = so_far_none c.args.query.now c.args.form.now c.args.text.now c.args.script.now.items
+loop-count-init c = so_far_none c.args.query.now c.args.form.now c.args.text.now c.args.script.now.items c.in_ok-check_names.ensures.matched
 
 pub read_record-requires : goal.read_record-requires
 read_record-requires c = so_far_fits _ _ _ _ _ _ _ c.loop-count.invariant
 
 pub overflow_sub-at : goal.overflow_sub-at
 overflow_sub-at c = so_far_fits _ _ _ _ _ _ _ c.loop-count.invariant
+
+pub returns-in_err-check_names-clause-refused : goal.returns-in_err-check_names-clause-refused
+returns-in_err-check_names-clause-refused c =
+    let before = c.args.script.now.items in
+    let refused = c.in_err-check_names.ensures.refused in
+    handed_on (IsTableRefused c.args.query.now c.args.form.now c.args.text.now before before c.args.most) c.from_residual.result c.in_err-check_names.field-0.0
+    c.from_residual.ensures.1 (of_cells refused.0 refused.1 refused.2 refused.3 refl)
 
 pub returns-in_err-more-clause-refused : goal.returns-in_err-more-clause-refused
 returns-in_err-more-clause-refused c =
@@ -24,7 +32,7 @@ returns-in_err-more-clause-refused c =
     let before = c.args.script.now.items in
     let after = c.loop-count.script.items in
     let why = c.in_err-more.field-0.0 in
-    handed_on (Refused query form text before after c.args.most) c.from_residual.result why c.from_residual.ensures.1
+    handed_on (IsTableRefused query form text before after c.args.most) c.from_residual-in_err-more.result why c.from_residual-in_err-more.ensures.1
     (text_refused query form text c.loop-count.rest.now before after c.loop-count._count c.args.most why c.loop-count.invariant c.loop-count-test.true c.in_err-more.ensures.refused)
 
 pub returns-then-len-form-clause-refused : goal.returns-then-len-form-clause-refused
