@@ -81,8 +81,8 @@ fn is_wide_byte(byte: u8) -> bool
     is_name_byte(byte) || byte.is_ascii_uppercase()
 }
 
-/// Whether the text begins with a wide name and its colon.
-pub(crate) fn opens_wide_name(text: &[u8]) -> bool
+/// Whether the text begins with a wide name and its colon. For the crate above.
+pub fn opens_wide_name(text: &[u8]) -> bool
     ensures { result ≡ opens_wide_name text.now }
 {
     match text {
@@ -91,8 +91,8 @@ pub(crate) fn opens_wide_name(text: &[u8]) -> bool
     }
 }
 
-/// The number of bytes at the front of the text that continue a wide name.
-pub(crate) fn wide_len(text: &[u8]) -> usize
+/// The number of bytes at the front of the text that continue a wide name. For the crate above.
+pub fn wide_len(text: &[u8]) -> usize
     ensures in_range { result ≤ length text.now }
     ensures len { result ≡ wide_len text.now }
 {

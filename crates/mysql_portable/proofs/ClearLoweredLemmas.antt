@@ -14,7 +14,7 @@ use Rattle.mysql_named_params.proofs.LoweredLemmas.{lowered_tokens}
 use Rattle.mysql_named_params.proofs.ReadingLemmas.{reading_exists}
 use Rattle.mysql_named_params.proofs.TokenListLemmas.{one_token_list}
 use Rattle.mysql_named_params.proofs.WideLemmas.{text_of-widened}
-use Rattle.mysql_portable.specs.Clear.{begins_client_line, begins_opener_after, begins_special_block, begins_wide_place, is_clear, is_clear_after, is_clear_in_client, is_in_doubt, is_in_doubt_for, is_in_doubt_in_client, may_begin_tag, may_take_dashes, may_take_place}
+use Rattle.mysql_portable.specs.Clear.{begins_client_line, begins_opener_after, begins_special_block, is_clear, is_clear_after, is_clear_in_client, is_in_doubt, is_in_doubt_for, is_in_doubt_in_client, may_begin_tag, may_take_dashes, may_take_place}
 use Rattle.mysql_portable.specs.FirstUnportable.{first_unportable}
 use Rattle.mysql_portable.specs.FirstUnportableInClient.{IsPortableInClient}
 use Rattle.mysql_portable.specs.FoundInClient.{begins_comment, begins_comment_dashes, begins_whole_word, begins_word, ends_word, letter_of, stand_before_comment}
@@ -28,11 +28,11 @@ use Rattle.mysql_portable.specs.SteadyBytes.{is_steady}
 -- ---- texts of which some capitals are in lower case
 
 -- the byte, or the capital in lower case
-abbrev IsLower : ℕ → ℕ → Type 0
+abbrev pub IsLower : ℕ → ℕ → Type 0
 IsLower x y = (y ≡ x) ⊎ ((is_capital x ≡ true) × (y ≡ to_ascii_lowercase x))
 
 -- the text with some capitals in lower case
-abbrev AreLower : List ℕ → List ℕ → Type 0
+abbrev pub AreLower : List ℕ → List ℕ → Type 0
 AreLower [] [] = ⊤
 AreLower [] (y ∷ ys) = ⊥
 AreLower (x ∷ xs) [] = ⊥
@@ -59,7 +59,7 @@ lower_name : (name : List ℕ) → AreLower name (map to_ascii_lowercase name)
 lower_name [] = tt
 lower_name (b ∷ bs) = (lower_byte b (is_capital b) refl, lower_name bs)
 
-lower_text : (ts : List Token) → AreLower (text_of ts) (text_of (lower_names ts))
+pub lower_text : (ts : List Token) → AreLower (text_of ts) (text_of (lower_names ts))
 lower_text [] = tt
 lower_text (Name name ∷ ts) = (inl refl, append_lower name (map to_ascii_lowercase name) _ _ (lower_name name) (lower_text ts))
 lower_text (t ∷ ts) = append_lower (bytes_of t) (bytes_of t) _ _ (all_same (bytes_of t)) (lower_text ts)
@@ -205,7 +205,7 @@ letter_lower : (x y : ℕ) → IsLower x y → letter_of y ≡ letter_of x
 letter_lower x y (inl e) = ap letter_of e
 letter_lower x y (inr h) = ap letter_of h.1 ∙ capital_letter x h.0
 
-word_lower : (word xs ys : List ℕ) → AreLower xs ys → begins_word word ys ≡ begins_word word xs
+pub word_lower : (word xs ys : List ℕ) → AreLower xs ys → begins_word word ys ≡ begins_word word xs
 word_lower [] xs ys l = refl
 word_lower (w ∷ ws) [] [] l = refl
 word_lower (w ∷ ws) [] (y ∷ ys) l = absurd l
@@ -221,7 +221,7 @@ end_lower [] (y ∷ ys) l = absurd l
 end_lower (x ∷ xs) [] l = absurd l
 end_lower (x ∷ xs) (y ∷ ys) l = of_byte (λ b. nat_le b space || b == byte ";") end_same x y l.0
 
-whole_lower : (word xs ys : List ℕ) → AreLower xs ys → begins_whole_word word ys ≡ begins_whole_word word xs
+pub whole_lower : (word xs ys : List ℕ) → AreLower xs ys → begins_whole_word word ys ≡ begins_whole_word word xs
 whole_lower word xs ys l =
     rw (word_lower word xs ys l, end_lower (drop (length word) xs) (drop (length word) ys) (drop_lower (length word) xs ys l)) refl
 
@@ -293,7 +293,7 @@ comment_lower (x ∷ xs) (y ∷ ys) l =
       comment_dashes_lower (x ∷ xs) (y ∷ ys) l,
     ) refl
 
-before_comment_lower : (xs ys : List ℕ) → AreLower xs ys → stand_before_comment ys ≡ stand_before_comment xs
+pub before_comment_lower : (xs ys : List ℕ) → AreLower xs ys → stand_before_comment ys ≡ stand_before_comment xs
 before_comment_lower [] [] l = refl
 before_comment_lower [] (y ∷ ys) l = absurd l
 before_comment_lower (x ∷ xs) [] l = absurd l

@@ -30,7 +30,7 @@ use Rattle.mysql_portable.proofs.FrontLemmas.{passes, unportable_at, front_is, q
 -- ---- a construct that is found at the front is found in its token
 
 -- a fact about both quotes is a fact about a quote
-of_quotes : (P : ℕ → Type 0) (q : ℕ) → is_string_quote q ≡ true → P single_quote → P double_quote → P q
+pub of_quotes : (P : ℕ → Type 0) (q : ℕ) → is_string_quote q ≡ true → P single_quote → P double_quote → P q
 of_quotes P q h s d = go (quote_is q h)
   where
     go : (q ≡ single_quote) ⊎ (q ≡ double_quote) → P q
@@ -53,7 +53,7 @@ nothing false true = refl
 nothing true false = refl
 nothing true true = refl
 
-bytes_are : (s l : Bool) (mode : Bool) (t : Token) (rest : List ℕ) → IsToken mode t rest →
+pub bytes_are : (s l : Bool) (mode : Bool) (t : Token) (rest : List ℕ) → IsToken mode t rest →
     found_in_bytes s l (bytes_of t) rest ≡ found_in_token s l t rest
 unfolding is_client_word
 bytes_are s l mode (QuotedString q []) rest h =
@@ -71,7 +71,7 @@ bytes_are s l mode (Name (b ∷ bs)) rest h = refl
 bytes_are s l mode Mark rest h = nothing s l
 bytes_are s l mode (Plain b) rest h = refl
 
-statement_is : (before mode : Bool) (t : Token) (rest : List ℕ) → IsToken mode t rest →
+pub statement_is : (before mode : Bool) (t : Token) (rest : List ℕ) → IsToken mode t rest →
     statement_after before (bytes_of t) ≡ begins_statement before t
 statement_is before mode (QuotedString q []) rest h = of_quotes (λ x. statement_after before (x ∷ []) ≡ false) q h.0 refl refl
 statement_is before mode (QuotedString q (b ∷ bs)) rest h = of_quotes (λ x. statement_after before (x ∷ b ∷ bs) ≡ false) q h.0 refl refl
@@ -87,7 +87,7 @@ statement_is before mode Mark rest h = refl
 statement_is before mode (Plain b) rest h =
     rw (no_hash mode b rest (plain_none mode b rest h)) (ap (λ x. b == byte ";" || (x && before)) (or-false (begins_no_word b)))
 
-line_is : (before mode : Bool) (t : Token) (rest : List ℕ) → IsToken mode t rest →
+pub line_is : (before mode : Bool) (t : Token) (rest : List ℕ) → IsToken mode t rest →
     line_after before (bytes_of t) ≡ begins_line before t
 line_is before mode (QuotedString q []) rest h = of_quotes (λ x. line_after before (x ∷ []) ≡ false) q h.0 refl refl
 line_is before mode (QuotedString q (b ∷ bs)) rest h = of_quotes (λ x. line_after before (x ∷ b ∷ bs) ≡ false) q h.0 refl refl
@@ -146,15 +146,15 @@ pub record WalkedInClient (mode : Bool) (query rest : List ℕ) (s l : Bool) : T
 pub walked_none : (mode : Bool) (query : List ℕ) → WalkedInClient mode query query true true
 walked_none mode query = record { tokens = []; cut = cut_none mode query; clear = tt; statement = refl; line = refl }
 
-statement_of-push : (ts : List Token) (t : Token) (s : Bool) → statement_of s (ts ++ t ∷ []) ≡ begins_statement (statement_of s ts) t
+pub statement_of-push : (ts : List Token) (t : Token) (s : Bool) → statement_of s (ts ++ t ∷ []) ≡ begins_statement (statement_of s ts) t
 statement_of-push [] t s = refl
 statement_of-push (u ∷ ts) t s = statement_of-push ts t (begins_statement s u)
 
-line_of-push : (ts : List Token) (t : Token) (l : Bool) → line_of l (ts ++ t ∷ []) ≡ begins_line (line_of l ts) t
+pub line_of-push : (ts : List Token) (t : Token) (l : Bool) → line_of l (ts ++ t ∷ []) ≡ begins_line (line_of l ts) t
 line_of-push [] t l = refl
 line_of-push (u ∷ ts) t l = line_of-push ts t (begins_line l u)
 
-AllClear-push : (ts : List Token) (t : Token) (rest : List ℕ) (s l : Bool) → AllClear s l (bytes_of t ++ rest) ts →
+pub AllClear-push : (ts : List Token) (t : Token) (rest : List ℕ) (s l : Bool) → AllClear s l (bytes_of t ++ rest) ts →
     found_at (statement_of s ts) (line_of l ts) t rest ≡ None → AllClear s l rest (ts ++ t ∷ [])
 AllClear-push [] t rest s l h p = (p, tt)
 AllClear-push (u ∷ ts) t rest s l h p =
@@ -188,7 +188,7 @@ walked_more mode query rest kind n s l s' l' w f d es el =
       line = line_of-push w.tokens f.token true ∙ (ap (λ x. begins_line x f.token) w.line ∙ (sym (line_is l mode f.token (drop n rest) f.holds) ∙ (ap (line_after l) (sym bytes) ∙ el)));
     })
 
-none_from : (ts : List Token) (n : ℕ) (s l : Bool) → AllClear s l [] ts → first_in_client_from n s l ts ≡ None
+pub none_from : (ts : List Token) (n : ℕ) (s l : Bool) → AllClear s l [] ts → first_in_client_from n s l ts ≡ None
 none_from [] n s l h = refl
 none_from (t ∷ ts) n s l h = rw h.0 (none_from ts (n + length (bytes_of t)) (begins_statement s t) (begins_line l t) h.1)
 
@@ -197,7 +197,7 @@ pub walked_whole : (mode : Bool) (query rest : List ℕ) (s l : Bool) → length
 walked_whole mode query rest s l e w =
     (w.tokens, all_tokens mode query rest w.tokens e w.cut, sym (none_from w.tokens 0 true true (subst (λ x. AllClear true true x w.tokens) (nil_from_length rest e) w.clear)))
 
-found_from : (front back : List Token) (t : Token) (n k : ℕ) (s l : Bool) (c : Construct) →
+pub found_from : (front back : List Token) (t : Token) (n k : ℕ) (s l : Bool) (c : Construct) →
     AllClear s l (text_of (t ∷ back)) front → found_at (statement_of s front) (line_of l front) t (text_of back) ≡ Some c →
     n + length (text_of front) ≡ k →
     ◌≡◌ {A = Option Unportable} (first_in_client_from n s l (front ++ t ∷ back)) (Some (record { construct = c; at = k }))
@@ -287,12 +287,12 @@ clear_from : (ts : List Token) (s l : Bool) → AreReadAlikeBefore [] ts → Joi
 clear_from [] s l a j h = tt
 clear_from (t ∷ ts) s l a j h = (rw (a.0, j.0) h.0, clear_from ts (begins_statement s t) (begins_line l t) a.1 j.1 h.1)
 
-none_is_portable : (ts : List Token) → first_unportable_in_client ts ≡ None → IsPortableInClient ts
+pub none_is_portable : (ts : List Token) → first_unportable_in_client ts ≡ None → IsPortableInClient ts
 none_is_portable ts e =
     let p = clear_parts ts 0 true true e in
     record { portable = record { alike = p.alike; apart = p.apart }; no_opener = p.no_opener; sent = p.sent }
 
-portable_has_none : (ts : List Token) → IsPortableInClient ts → first_unportable_in_client ts ≡ None
+pub portable_has_none : (ts : List Token) → IsPortableInClient ts → first_unportable_in_client ts ≡ None
 portable_has_none ts p = none_from ts 0 true true (clear_from ts true true p.portable.alike p.portable.apart p.sent)
 
 pub none_in_client : (mode : Bool) (query : List ℕ) (found : Option Unportable) →

@@ -109,7 +109,7 @@ special_same : (tail rest : List ℕ) → begins_special tail ≡ true →
 special_same [] rest h = absurd (true≢false (sym h))
 special_same (b ∷ tail) rest h = refl
 
-block_front : (tail rest : List ℕ) → IsUpTo (asterisk ∷ slash ∷ []) tail rest →
+pub block_front : (tail rest : List ℕ) → IsUpTo (asterisk ∷ slash ∷ []) tail rest →
     block_construct (asterisk ∷ (tail ++ rest)) ≡ unportable_at (BlockComment tail) rest
 block_front tail rest u = go (cases_Bool (begins_special tail))
   where
@@ -134,7 +134,7 @@ no_double_quote mode b rest n = go (b == single_quote) (b == double_quote) _ _ n
     go false true t q e = cc
     go false false t q e = refl
 
-slash_block : (mode : Bool) (b : ℕ) (rest : List ℕ) → b ≡ slash → not_plain_at mode (b ∷ rest) ≡ None →
+pub slash_block : (mode : Bool) (b : ℕ) (rest : List ℕ) → b ≡ slash → not_plain_at mode (b ∷ rest) ≡ None →
     block_comment rest ≡ None
 slash_block mode b rest e = subst (λ x. not_plain_at mode (x ∷ rest) ≡ None → block_comment rest ≡ None) (sym e) (λ n. n)
 
@@ -174,7 +174,7 @@ point_ways false true c d = refl
 point_ways false false c d = refl
 
 -- at a byte that is no double quote
-abbrev byte_construct : ℕ → List ℕ → Option Construct
+abbrev pub byte_construct : ℕ → List ℕ → Option Construct
 byte_construct b bs =
     cond (b == slash) (block_construct bs)
     (cond (b == dash && may_open_line bs) (Some construct.Dashes)
@@ -224,7 +224,7 @@ byte_front b rest n = at_slash (cases_Bool (b == slash))
     at_slash (inl e) = at_byte slash e (slash_front rest (n (eqb-true b slash e)))
     at_slash (inr f1) = at_dash f1 (cases_Bool (b == dash))
 
-plain_front : (mode : Bool) (b : ℕ) (rest : List ℕ) → not_plain_at mode (b ∷ rest) ≡ None →
+pub plain_front : (mode : Bool) (b : ℕ) (rest : List ℕ) → not_plain_at mode (b ∷ rest) ≡ None →
     front_construct (b ∷ rest) 1 ≡ unportable_at (Plain b) rest
 plain_front mode b rest n =
     let quote : front_construct (b ∷ rest) 1 ≡ byte_construct b rest =

@@ -22,4 +22,7 @@ pub mod ClearWalkLemmas
 pub mod ClearInClientLemmas
 pub mod ClientWordLemmas
 pub mod ClearLoweredLemmas
-pub mod WideUnportableLemmas
+pub mod ByStartLemmas
+pub mod WideFrontLemmas
+pub mod WideWalkLemmas
+pub mod WideClientLemmas

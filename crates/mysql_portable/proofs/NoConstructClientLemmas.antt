@@ -17,17 +17,17 @@ use Rattle.mysql_portable.specs.FrontConstruct.{front_construct}
 use Rattle.mysql_portable.proofs.ClientWalkLemmas.{WalkedInClient, walked_more}
 use Rattle.mysql_portable.proofs.NoConstructLemmas.{no_construct-not, no_construct_front, no_construct_after, apart_after}
 
-nothing_at : (b : ℕ) (bs : List ℕ) → begins_no_construct b ≡ true → found_or_zero false false (b ∷ []) bs ≡ None
+pub nothing_at : (b : ℕ) (bs : List ℕ) → begins_no_construct b ≡ true → found_or_zero false false (b ∷ []) bs ≡ None
 nothing_at b bs p = rw (no_construct-not b p 0 refl, no_construct-not b p (byte "\\") refl, no_construct-not b p asterisk refl, no_construct-not b p dash refl) refl
 
 nothing_in_front : (b : ℕ) (bs : List ℕ) → begins_no_construct b ≡ true → front_construct (b ∷ bs) 1 ≡ None →
     found_in_front false false (b ∷ bs) 1 ≡ None
 nothing_in_front b bs p none = ap (λ x. first_of x (found_or_zero false false (b ∷ []) bs)) none ∙ nothing_at b bs p
 
-no_statement : (b : ℕ) → begins_no_construct b ≡ true → statement_after false (b ∷ []) ≡ false
+pub no_statement : (b : ℕ) → begins_no_construct b ≡ true → statement_after false (b ∷ []) ≡ false
 no_statement b p = rw (no_construct-not b p (byte ";") refl) (and_right (begins_no_word b || b == hash) false refl)
 
-no_line : (b : ℕ) → begins_no_construct b ≡ true → line_after false (b ∷ []) ≡ false
+pub no_line : (b : ℕ) → begins_no_construct b ≡ true → line_after false (b ∷ []) ≡ false
 no_line b p =
     rw (no_construct-not b p (byte ";") refl, no_construct-not b p newline refl, no_construct-not b p slash refl, no_construct-not b p hash refl)
     (and_right (begins_no_word b) false refl)

@@ -1,6 +1,6 @@
 -- A run of bytes that begin no construct: none of servers begins in it.
 use Rattle.std.specs.Prelude.{Bool}
-use Rattle.std.proofs.Common.{◌≡◌, ◌≢◌, ◌⊎◌, inl, inr, ℕ, zero, suc, ◌+◌, ◌-◌, ◌<◌, ◌≤◌, true, false, ◌||◌, ◌==◌, ne_eqb, List, [], ◌∷◌, length, length-drop, drop, get_or, None, refl, ap, ◌∙◌, subst, arith, below_more}
+use Rattle.std.proofs.Common.{◌≡◌, true≢false, ◌&&◌, ◌≢◌, ◌⊎◌, inl, inr, ℕ, zero, suc, ◌+◌, ◌-◌, ◌<◌, ◌≤◌, true, false, ◌||◌, ◌==◌, ne_eqb, List, [], ◌∷◌, length, length-drop, drop, get_or, None, refl, ap, ◌∙◌, subst, arith, below_more}
 use Rattle.std.specs.Char.{is_ascii_digit}
 use Rattle.std.specs.Str.{byte}
 use Rattle.std.proofs.lemmas.Bool.{and_parts, and_right, or_from, or_parts, cases_lt}
@@ -11,7 +11,8 @@ use Rattle.mysql_named_params.specs.declared.tokens.TokenKind.TheVariants as kin
 use Rattle.mysql_named_params.proofs.TokenEndLemmas.{slice_from}
 use Rattle.mysql_named_params.proofs.FirstPlaceLemmas.{plain_token}
 use Rattle.mysql_portable.specs.Portable.{begins_exponent}
-use Rattle.mysql_portable.specs.NoConstruct.{begins_no_construct, is_of_exponent, StandBeforeNoExponent}
+use Rattle.mysql_portable.specs.ServerTokens.{begins_place}
+use Rattle.mysql_portable.specs.NoConstruct.{begins_exponent_sign, begins_no_construct, is_of_exponent, StandBeforeNoExponent, StandBeforeNoSign}
 use Rattle.mysql_portable.specs.FrontConstruct.{front_construct}
 use Rattle.mysql_portable.proofs.UnportableLemmas.{WalkedSoFar, walked_more}
 
@@ -32,14 +33,14 @@ no_sign : (b : ℕ) → begins_no_construct b ≡ true → (b == plus || b == da
 no_sign b p = or_from _ _ (no_construct-not b p plus refl) (no_construct-not b p dash refl)
 
 -- an exponent begins with a letter
-no_letter_first : (b c : ℕ) (bs : List ℕ) → (b == byte "e" || b == byte "E") ≡ false → begins_exponent (b ∷ c ∷ bs) ≡ false
+no_letter_first : (b c : ℕ) (bs : List ℕ) → (b == byte "e" || b == byte "E") ≡ false → begins_exponent_sign (b ∷ c ∷ bs) ≡ false
 no_letter_first b c bs l = rw l refl
 
 -- and then with a sign
-no_sign_second : (b c : ℕ) (bs : List ℕ) → (c == plus || c == dash) ≡ false → begins_exponent (b ∷ c ∷ bs) ≡ false
+no_sign_second : (b c : ℕ) (bs : List ℕ) → (c == plus || c == dash) ≡ false → begins_exponent_sign (b ∷ c ∷ bs) ≡ false
 no_sign_second b c bs s = rw s (and_right (b == byte "e" || b == byte "E") false refl)
 
-short_text : (text : List ℕ) → length text < 2 → begins_exponent text ≡ false
+short_text : (text : List ℕ) → length text < 2 → begins_exponent_sign text ≡ false
 short_text [] lt = refl
 short_text (b ∷ []) lt = refl
 short_text (b ∷ c ∷ bs) lt = absurd (omega arith)
@@ -47,14 +48,14 @@ short_text (b ∷ c ∷ bs) lt = absurd (omega arith)
 module _ (text : List ℕ) (end : ℕ) (no_construct : EachPasses begins_no_construct text 0 end) where
   -- no exponent begins with the two bytes after this one
   abbrev Apart : ℕ → Type 0
-  Apart k = begins_exponent (get_or text (k + 1) 0 ∷ get_or text (k + 1 + 1) 0 ∷ drop (k + 1 + 1 + 1) text) ≡ false
+  Apart k = begins_exponent_sign (get_or text (k + 1) 0 ∷ get_or text (k + 1 + 1) 0 ∷ drop (k + 1 + 1 + 1) text) ≡ false
 
   -- if they are there at all
-  apart : (k : ℕ) → (k + 2 < length text → Apart k) → begins_exponent (drop (k + 1) text) ≡ false
+  apart : (k : ℕ) → (k + 2 < length text → Apart k) → begins_exponent_sign (drop (k + 1) text) ≡ false
   apart k two =
       elim (cases_lt (k + 2) (length text)) [
         | inl more ↦
-            ap begins_exponent (drop_more text (k + 1) 0 (omega arith) ∙ ap (λ x. get_or text (k + 1) 0 ∷ x) (drop_more text (k + 1 + 1) 0 (omega arith)))
+            ap begins_exponent_sign (drop_more text (k + 1) 0 (omega arith) ∙ ap (λ x. get_or text (k + 1) 0 ∷ x) (drop_more text (k + 1 + 1) 0 (omega arith)))
             ∙ two more
         | inr less ↦ short_text (drop (k + 1) text) (omega (arith, length-drop (k + 1) text))
       ]
@@ -64,10 +65,10 @@ module _ (text : List ℕ) (end : ℕ) (no_construct : EachPasses begins_no_cons
       let second = get_or text (k + 1 + 1) 0 in
       no_sign_second (get_or text (k + 1) 0) second (drop (k + 1 + 1 + 1) text) (no_sign second (no_construct (k + 1 + 1) (omega arith) (omega arith)))
 
-  pub apart_within : (n : ℕ) → n ≡ end - 2 → StandBeforeNoExponent text n
+  pub apart_within : (n : ℕ) → n ≡ end - 2 → StandBeforeNoSign text n
   apart_within n e k lt = apart k (λ more. no_sign_inside k (omega arith))
 
-  pub apart_at_end : begins is_of_exponent (slice_from end text) ≡ false → StandBeforeNoExponent text end
+  pub apart_at_end : begins is_of_exponent (slice_from end text) ≡ false → StandBeforeNoSign text end
   apart_at_end none k lt = apart k (λ more. go more (cases_lt (k + 2) end) (cases_lt (k + 1) end))
     where
       at_end : (i : ℕ) → end ≡ i → i < length text →
@@ -82,6 +83,20 @@ module _ (text : List ℕ) (end : ℕ) (no_construct : EachPasses begins_no_cons
           no_sign_second (get_or text (k + 1) 0) (get_or text (k + 1 + 1) 0) (drop (k + 1 + 1 + 1) text) (at_end (k + 1 + 1) (omega arith) (omega arith)).1
       go more (inr past) (inr last) =
           no_letter_first (get_or text (k + 1) 0) (get_or text (k + 1 + 1) 0) (drop (k + 1 + 1 + 1) text) (at_end (k + 1) (omega arith) (omega arith)).0
+
+-- no exponent without its sign
+pub no_sign_no_exponent : (text : List ℕ) → begins_exponent_sign text ≡ false → begins_exponent text ≡ false
+no_sign_no_exponent [] h = refl
+no_sign_no_exponent (e ∷ []) h = refl
+no_sign_no_exponent (e ∷ sign ∷ bs) h = go (e == byte "e" || e == byte "E") (sign == plus || sign == dash) h
+  where
+    go : (l s : Bool) → (l && s) ≡ false → (l && (s && begins_place bs)) ≡ false
+    go false s h = refl
+    go true false h = refl
+    go true true h = absurd (true≢false h)
+
+pub apart_of_signs : (text : List ℕ) (end : ℕ) → StandBeforeNoSign text end → StandBeforeNoExponent text end
+apart_of_signs text end apart k lt = no_sign_no_exponent (drop (k + 1) text) (apart k lt)
 
 -- ---- the walk goes on over the run
 

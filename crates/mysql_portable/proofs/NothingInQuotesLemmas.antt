@@ -46,7 +46,7 @@ nothing_in_quotes_front text len le nothing k from to =
     let high : k < len = omega (arith, length-take-le len text le) in
     subst (λ x. begins_nothing_in_quotes x ≡ true) (sym (get_or-take len text k 0 high)) (nothing k from high)
 
-nothing_in_token : (s l : Bool) (text : List ℕ) (len : ℕ) (rest : List ℕ) → len ≤ length text → HoldsNothingInQuotes text len →
+pub nothing_in_token : (s l : Bool) (text : List ℕ) (len : ℕ) (rest : List ℕ) → len ≤ length text → HoldsNothingInQuotes text len →
     found_or_zero s l (take len text) rest ≡ None
 nothing_in_token s l [] len rest le h = absurd (true≢false (sym h.0))
 nothing_in_token s l (b ∷ bs) zero rest le h = absurd (omega (arith, h.1))

@@ -36,7 +36,7 @@ pub record WalkedSoFar (mode : Bool) (query rest : List ℕ) : Type 0 where
 pub walked_none : (mode : Bool) (query : List ℕ) → WalkedSoFar mode query query
 walked_none mode query = record { tokens = []; cut = cut_none mode query; pass = tt }
 
-AllPass-push : (ts : List Token) (t : Token) (rest : List ℕ) → AllPass (bytes_of t ++ rest) ts →
+pub AllPass-push : (ts : List Token) (t : Token) (rest : List ℕ) → AllPass (bytes_of t ++ rest) ts →
     passes t rest ≡ true → AllPass rest (ts ++ t ∷ [])
 AllPass-push [] t rest h p = (p, tt)
 AllPass-push (u ∷ ts) t rest h p =
@@ -57,7 +57,7 @@ none_passes t rest = go (passes t rest)
     go true e = refl
     go false e = cc
 
-some_fails : (t : Token) (rest : List ℕ) (c : Construct) → unportable_at t rest ≡ Some c →
+pub some_fails : (t : Token) (rest : List ℕ) (c : Construct) → unportable_at t rest ≡ Some c →
     (passes t rest ≡ false) × (construct_at t rest ≡ c)
 some_fails t rest c = go (passes t rest)
   where
@@ -76,7 +76,7 @@ walked_more mode query rest kind n w f d =
       pass = AllPass-push w.tokens f.token (drop n rest) (subst (λ x. AllPass x w.tokens) (sym f.bytes) w.pass) (none_passes f.token (drop n rest) (sym (front_of mode rest kind n f) ∙ d));
     })
 
-none_from : (ts : List Token) (n : ℕ) → AllPass [] ts → first_unportable_from n ts ≡ None
+pub none_from : (ts : List Token) (n : ℕ) → AllPass [] ts → first_unportable_from n ts ≡ None
 none_from [] n h = refl
 none_from (t ∷ ts) n h = rw h.0 (none_from ts (n + length (bytes_of t)) h.1)
 
@@ -85,7 +85,7 @@ pub walked_whole : (mode : Bool) (query rest : List ℕ) → length rest ≡ 0 �
 walked_whole mode query rest e w =
     (w.tokens, all_tokens mode query rest w.tokens e w.cut, sym (none_from w.tokens 0 (subst (λ x. AllPass x w.tokens) (nil_from_length rest e) w.pass)))
 
-found_from : (front back : List Token) (t : Token) (n k : ℕ) (c : Construct) →
+pub found_from : (front back : List Token) (t : Token) (n k : ℕ) (c : Construct) →
     AllPass (text_of (t ∷ back)) front → passes t (text_of back) ≡ false →
     construct_at t (text_of back) ≡ c → n + length (text_of front) ≡ k →
     ◌≡◌ {A = Option Unportable} (first_unportable_from n (front ++ t ∷ back)) (Some (record { construct = c; at = k }))

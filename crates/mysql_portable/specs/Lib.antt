@@ -14,5 +14,6 @@ pub mod Statements
 pub mod FoundInClient
 pub mod FirstUnportableInClient
 pub mod FrontInClient
+pub mod ByStart
 pub mod NothingInQuotes
 pub mod Clear

@@ -3,7 +3,7 @@
 ghost use Rattle.std.specs.Prelude.{◌≡◌, ◌↔◌, ◌≤◌, ◌<◌, false, length, None, IsTrue};
 ghost use Rattle.mysql_named_params.specs.Tokens.{OnTokens};
 ghost use Rattle.mysql_named_params.specs.Lanes.{EachPasses};
-ghost use Rattle.mysql_portable.specs.NoConstruct.{begins_no_construct, StandBeforeNoExponent};
+ghost use Rattle.mysql_portable.specs.NoConstruct.{begins_no_construct, StandBeforeNoExponent, StandBeforeNoSign};
 ghost use Rattle.mysql_portable.specs.Client.{begins_opener, begins_end, holds_opener};
 ghost use Rattle.mysql_portable.specs.FoundInClient.{begins_no_word, begins_delimiter_line, without_accent, letter_of, begins_word, ends_word, begins_whole_word, is_word_of_mariadb, is_word_of_mysql, is_client_word, is_joined, closes_before_joined, drops_line, begins_comment, stand_before_comment, ends_line, escapes_newline, found_in_quotes, found_in_comment, found_word, found_at_byte};
 ghost use Rattle.mysql_portable.specs.FirstUnportableInClient.{first_unportable_in_client, IsPortableInClient};
@@ -30,8 +30,8 @@ fn begins_no_word(byte: u8) -> bool
     byte <= b' ' || 128 <= byte
 }
 
-// Whether a statement begins after this token. `before` says whether one begins before it.
-fn statement_after(before: bool, token: &[u8]) -> bool
+/// Whether a statement begins after this token. `before` says whether one begins before it.
+pub(crate) fn statement_after(before: bool, token: &[u8]) -> bool
     ensures { result ≡ statement_after before token.now }
 {
     match token {
@@ -42,8 +42,8 @@ fn statement_after(before: bool, token: &[u8]) -> bool
     }
 }
 
-// Whether a line or a statement may begin after this token.
-fn line_after(before: bool, token: &[u8]) -> bool
+/// Whether a line or a statement may begin after this token.
+pub(crate) fn line_after(before: bool, token: &[u8]) -> bool
     ensures { result ≡ line_after before token.now }
 {
     match token {
@@ -68,6 +68,7 @@ fn begins_end(text: &[u8]) -> bool
 }
 
 // Whether the text of a comment has one of these openers.
+#[inline(always)]
 fn holds_opener(text: &[u8]) -> bool
     ensures { result ≡ holds_opener text.now }
 {
@@ -218,6 +219,7 @@ fn ends_line(text: &[u8]) -> bool
 }
 
 // Whether a backslash is at the end of a line of the text.
+#[inline(always)]
 fn escapes_newline(text: &[u8]) -> bool
     ensures { result ≡ escapes_newline text.now }
 {
@@ -309,6 +311,7 @@ fn begins_delimiter_line(text: &[u8]) -> bool
 }
 
 // The construct that is found at a plain byte before this text.
+#[inline(always)]
 fn found_at_byte(statement: bool, line: bool, byte: u8, rest: &[u8]) -> Option<Construct>
     ensures { result ≡ found_at_byte statement line byte rest.now }
 {
@@ -322,6 +325,7 @@ fn found_at_byte(statement: bool, line: bool, byte: u8, rest: &[u8]) -> Option<C
 }
 
 // The construct that is found at this lower-case letter, followed by this text.
+#[inline(always)]
 fn found_word(statement: bool, line: bool, letter: u8, rest: &[u8]) -> Option<Construct>
     ensures { result ≡ found_word statement line letter rest.now }
 {
@@ -334,8 +338,15 @@ fn found_word(statement: bool, line: bool, letter: u8, rest: &[u8]) -> Option<Co
     None
 }
 
-// The construct that is found in a token of these bytes, before this text.
-fn found_in_bytes(statement: bool, line: bool, token: &[u8], rest: &[u8]) -> Option<Construct>
+/// The construct that is found in a token of these bytes, before this text. It is inlined, with what
+/// it calls, as it was while it had one caller.
+#[inline(always)]
+pub(crate) fn found_in_bytes(
+    statement: bool,
+    line: bool,
+    token: &[u8],
+    rest: &[u8],
+) -> Option<Construct>
     ensures { result ≡ found_in_bytes statement line token.now rest.now }
 {
     match token {
@@ -347,6 +358,7 @@ fn found_in_bytes(statement: bool, line: bool, token: &[u8], rest: &[u8]) -> Opt
 }
 
 // The construct that is found in a block comment before this text.
+#[inline(always)]
 fn found_in_comment(tail: &[u8], rest: &[u8]) -> Option<Construct>
     ensures { result ≡ found_in_comment tail.now rest.now }
 {
@@ -361,6 +373,7 @@ fn found_in_comment(tail: &[u8], rest: &[u8]) -> Option<Construct>
 }
 
 // The construct that is found in a text in quotes or backquotes.
+#[inline(always)]
 fn found_in_quotes(tail: &[u8]) -> Option<Construct>
     ensures { result ≡ found_in_quotes tail.now }
 {
@@ -373,9 +386,9 @@ fn found_in_quotes(tail: &[u8]) -> Option<Construct>
     None
 }
 
-// Whether the token of the length `len` at the front of the text is a text in quotes or backquotes
-// in which nothing begins. Most such texts are like this, and nothing is found in them.
-fn holds_nothing_in_quotes(text: &[u8], len: usize) -> bool
+/// Whether the token of the length `len` at the front of the text is a text in quotes or backquotes
+/// in which nothing begins. Most such texts are like this, and nothing is found in them.
+pub(crate) fn holds_nothing_in_quotes(text: &[u8], len: usize) -> bool
     requires { len ≤ length text.now }
     ensures { IsTrue result → HoldsNothingInQuotes text.now len }
 {
@@ -401,12 +414,13 @@ fn found_in_front(statement: bool, line: bool, text: &[u8], len: usize) -> Optio
     found_in_bytes(statement, line, token, rest)
 }
 
-// The number of bytes at the front of the text that begin no construct and are skipped at once. It
-// is 0 where a word of the client may begin.
-fn passed_len(statement: bool, line: bool, text: &[u8]) -> usize
+/// The number of bytes at the front of the text that begin no construct and are skipped at once. It
+/// is 0 where a word of the client may begin.
+pub(crate) fn passed_len(statement: bool, line: bool, text: &[u8]) -> usize
     ensures in_range { result ≤ length text.now }
     ensures no_construct { EachPasses begins_no_construct text.now 0 result }
     ensures no_exponent { StandBeforeNoExponent text.now result }
+    ensures no_sign { StandBeforeNoSign text.now result }
     ensures no_word { 0 < result → (statement ≡ false) × (line ≡ false) }
 {
     if statement || line {

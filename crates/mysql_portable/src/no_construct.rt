@@ -6,7 +6,7 @@
 ghost use Rattle.std.specs.Prelude.{◌≡◌, ◌≤◌, length};
 ghost use Rattle.mysql_named_params.specs.Bytes.{begins};
 ghost use Rattle.mysql_named_params.specs.Lanes.{EachPasses};
-ghost use Rattle.mysql_portable.specs.NoConstruct.{begins_no_construct, is_of_exponent, StandBeforeNoExponent};
+ghost use Rattle.mysql_portable.specs.NoConstruct.{begins_no_construct, is_of_exponent, StandBeforeNoExponent, StandBeforeNoSign};
 
 use mysql_named_params::lanes::{ByteSet, first_set, run_end};
 use std::simd::prelude::*;
@@ -24,6 +24,7 @@ pub(crate) fn no_construct_len(text: &[u8]) -> usize
     ensures in_range { result ≤ length text.now }
     ensures no_construct { EachPasses begins_no_construct text.now 0 result }
     ensures no_exponent { StandBeforeNoExponent text.now result }
+    ensures no_sign { StandBeforeNoSign text.now result }
 {
     match text {
         [first, ..] if begins_no_construct(*first) => no_construct_run_len(text),
@@ -38,6 +39,7 @@ fn no_construct_run_len(text: &[u8]) -> usize
     ensures in_range { result ≤ length text.now }
     ensures no_construct { EachPasses begins_no_construct text.now 0 result }
     ensures no_exponent { StandBeforeNoExponent text.now result }
+    ensures no_sign { StandBeforeNoSign text.now result }
 {
     let end = no_construct_end(text);
     if goes_on_exponent(&text[end..]) {

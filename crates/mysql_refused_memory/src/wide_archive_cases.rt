@@ -206,12 +206,12 @@ fn names_written(alloc: Global, (query, mode, wanted, memory): NamesRow) -> Outc
 type ReportRow = (bool, &'static [u8], (i32, usize), Memory);
 
 const REPORTS: &[(&str, ReportRow)] = cases! {
-    "report_first_unportable_wide of a name with a capital" => false, b":A [", (6, 3), Asked;
+    "report_first_unportable_wide of a name with a capital" => false, b":A [", (6, 3), Never;
     "report_first_unportable_wide of a portable query with a capital" =>
-        false, b"SELECT :A", (0, 0), Asked;
+        false, b"SELECT :A", (0, 0), Never;
     "report_first_unportable_wide of a name without capitals" => false, b":a [", (6, 3), Never;
     "report_first_unportable_in_client_wide of a name with a capital" =>
-        true, b":A [", (6, 3), Asked;
+        true, b":A [", (6, 3), Never;
     "report_first_unportable_in_client_wide of a name without capitals" =>
         true, b":a [", (6, 3), Never;
 };

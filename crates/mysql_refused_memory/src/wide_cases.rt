@@ -87,23 +87,22 @@ enum Reader {
 /// A construct and its position, if there is one.
 type Found = Option<(Construct, usize)>;
 
-/// A reader, a query, the mode, what is found, and whether it asks for memory: for a copy of a
-/// query with a capital in a name.
+/// A reader, a query, the mode, what is found, and whether it asks for memory, which none does.
 type UnportableRow = (Reader, &'static [u8], bool, Found, Memory);
 
 const UNPORTABLE: &[(&str, UnportableRow)] = cases! {
     "first_unportable_wide of a name with a capital" =>
-        Reader::Servers, b"SELECT :Id [", false, Some((Construct::Bracket, 11)), Asked;
+        Reader::Servers, b"SELECT :Id [", false, Some((Construct::Bracket, 11)), Never;
     "first_unportable_wide of a portable query with a capital" =>
-        Reader::Servers, b"SELECT :Id", false, None, Asked;
+        Reader::Servers, b"SELECT :Id", false, None, Never;
     "first_unportable_wide without backslash escapes" =>
-        Reader::Servers, b"'\\', :A [", true, Some((Construct::Bracket, 8)), Asked;
+        Reader::Servers, b"'\\', :A [", true, Some((Construct::Bracket, 8)), Never;
     "first_unportable_wide of a name without capitals" =>
         Reader::Servers, b"[ :a ':A'", false, Some((Construct::Bracket, 0)), Never;
     "first_unportable_in_client_wide of a name with a capital" =>
-        Reader::Client, b"SELECT :A\ndelimiter x", false, Some((Construct::Delimiter, 10)), Asked;
+        Reader::Client, b"SELECT :A\ndelimiter x", false, Some((Construct::Delimiter, 10)), Never;
     "first_unportable_in_client_wide of a portable query with a capital" =>
-        Reader::Client, b"SELECT :A", true, None, Asked;
+        Reader::Client, b"SELECT :A", true, None, Never;
     "first_unportable_in_client_wide of a name without capitals" =>
         Reader::Client, b"SELECT :a\ndelimiter x", false, Some((Construct::Delimiter, 10)), Never;
 };

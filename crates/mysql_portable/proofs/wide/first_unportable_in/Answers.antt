@@ -1,0 +1,13 @@
+use Rattle.std.specs.Prelude.{◌≡◌, ◌↔◌, None}
+use Rattle.mysql_portable.specs.FirstUnportable.{first_unportable}
+use Rattle.mysql_portable.specs.Portable.{IsPortable}
+use Rattle.mysql_portable.proofs.WideWalkLemmas.{in_grammar}
+use Rattle.mysql_portable.proofs.wide.first_unportable_in.Goals as goal
+
+pub returns-else-reading-clause-first : goal.returns-else-reading-clause-first
+returns-else-reading-clause-first c =
+    in_grammar c.args.reading c.args.query.now (λ ts. c.first_unportable.result ≡ first_unportable ts) c.if-reading.false c.first_unportable.ensures.first
+
+pub returns-else-reading-clause-none : goal.returns-else-reading-clause-none
+returns-else-reading-clause-none c =
+    in_grammar c.args.reading c.args.query.now (λ ts. (c.first_unportable.result ≡ None) ↔ IsPortable ts) c.if-reading.false c.first_unportable.ensures.none
