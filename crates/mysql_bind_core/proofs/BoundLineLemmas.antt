@@ -26,11 +26,13 @@ use Rattle.mysql_binding.proofs.SpliceLemmas.{Each, as_many_lists}
 use Rattle.mysql_steady_text.specs.SteadyLiterals.{AreSteadyLiterals}
 use Rattle.mysql_steady_text.specs.SteadyText.{IsSteadyText}
 use Rattle.mysql_steady_text.proofs.SteadySpliceLemmas.{steady_isolated}
+use Rattle.mysql_steady_text.proofs.SteadyTextLemmas.{shapes_in}
 use Rattle.mysql_steady_text.proofs.WideSteadyLemmas.{with_literal_tokens-lowered}
 use Rattle.mysql_fragments.specs.Expanded.{IsExpanded, IsBoundFragments}
 use Rattle.mysql_fragments.specs.FragmentShape.{AreFragments}
 use Rattle.mysql_fragments.specs.FragmentText.{fragment_text, mark_number}
 use Rattle.mysql_fragments.specs.GivenFragments.{GivenFragments}
+use Rattle.mysql_fragments.proofs.ExpandedLemmas.{expanded_shapes}
 use Rattle.mysql_fragments.proofs.SplicedFragmentLemmas.{fragment_list}
 use Rattle.mysql_fragments.specs.SteadyFragments.{IsSteadyFragments}
 use Rattle.mysql_bind_core.specs.QueryEnd.{end, long_end}
@@ -219,7 +221,7 @@ pub steady_line : (ts : List Token) (given : Given) (text : List ℕ) → IsClos
 steady_line ts given text c b mode =
     let us : List Token = with_literal_tokens ts b.literal_tokens in
     let closed : EndClosed false us = replaced_closed false ts b.literal_tokens c (places_filled false ts b.literals b.literal_tokens text (b.tokens_of_literals false) b.text_is) (b.isolated false).each
-    (closed_steady false b.literals b.literal_tokens b.shapes (b.tokens_of_literals false)) in
+    (closed_steady false b.literals b.literal_tokens (shapes_in b) (b.tokens_of_literals false)) in
     record {
       tokens = us;
       is = b.isolated mode;
@@ -231,7 +233,7 @@ pub expanded_closed : (mode : Bool) (ts : List Token) (given : GivenFragments) (
     IsClosedLowered mode ts → (x : IsExpanded true mode ts given text) → EndClosed mode (with_literal_tokens ts x.lists)
 expanded_closed mode ts given text c x =
     replaced_closed mode ts x.lists c (places_filled mode ts (map fragment_text x.fragments) x.lists text x.tokens_of_fragments x.text_is) x.isolated.each
-    (closed_fragments mode (map mark_number x.fragments) (map fragment_text x.fragments) x.lists x.shapes x.tokens_of_fragments)
+    (closed_fragments mode (map mark_number x.fragments) (map fragment_text x.fragments) x.lists (expanded_shapes x) x.tokens_of_fragments)
 
 pub fragments_line : (mode : Bool) (ts : List Token) (given : GivenFragments) (text : List ℕ) →
     IsClosedLowered mode ts → IsBoundFragments mode ts given text → HasLine mode text
@@ -250,7 +252,7 @@ steady_fragments_line ts given text c b mode =
     let us = with_literal_tokens ts b.expanded.lists in
     let vs : List Token = with_literal_tokens us b.bound.literal_tokens in
     let closed : EndClosed false vs = closed_bound false us b.bound.literal_tokens (b.isolated false).each (b.bound.isolated false).each (expanded_closed false ts given b.query c b.expanded)
-    (closed_steady false b.bound.literals b.bound.literal_tokens b.bound.shapes (b.bound.tokens_of_literals false)) in
+    (closed_steady false b.bound.literals b.bound.literal_tokens (shapes_in b.bound) (b.bound.tokens_of_literals false)) in
     record {
       tokens = vs;
       is = b.bound.isolated mode;

@@ -19,12 +19,13 @@ use Rattle.mysql_steady_text.specs.SteadyLiterals.{AreSteadyLiterals}
 use Rattle.mysql_steady_text.specs.SteadyText.{IsSteadyText}
 use Rattle.mysql_steady_text.proofs.SteadyClientLemmas.{bound_alone}
 use Rattle.mysql_steady_text.proofs.SteadySpliceLemmas.{steady_isolated, steady_portable}
+use Rattle.mysql_steady_text.proofs.SteadyTextLemmas.{shapes_in}
 use Rattle.mysql_fragments.specs.Expanded.{IsBoundFragments}
 use Rattle.mysql_fragments.specs.FragmentShape.{AreFragments}
 use Rattle.mysql_fragments.specs.FragmentText.{fragment_text, mark_number}
 use Rattle.mysql_fragments.specs.GivenFragments.{GivenFragments, named}
 use Rattle.mysql_fragments.specs.SteadyFragments.{IsSteadyFragments}
-use Rattle.mysql_fragments.proofs.ExpandedLemmas.{expanded_alone}
+use Rattle.mysql_fragments.proofs.ExpandedLemmas.{expanded_alone, expanded_shapes}
 use Rattle.mysql_fragments.proofs.SplicedFragmentLemmas.{fragments_isolated, fragments_portable}
 use Rattle.mysql_bind_core.specs.Bound.{IsAssignedText, IsTaken, IsTextFor, of_fragments, of_values}
 use Rattle.mysql_bind_core.specs.Entries.{IsFragmentsFor}
@@ -103,7 +104,7 @@ steady_alike mode query text ts vs given q b v =
     let own : IsTokens false text vs = steady_other mode false text vs b.steady v in
     with_steady false (text_of (lower_names ts)) text (lower_names ts) q.low.is q.low.closed q.alike vs own
     (closed_of false text (steady_line ts given text q.low b false) vs own)
-    b.literals b.literal_tokens (low_alone false query ts q.is (bound_alone ts given text b)) b.shapes (b.tokens_of_literals false)
+    b.literals b.literal_tokens (low_alone false query ts q.is (bound_alone ts given text b)) (shapes_in b) (b.tokens_of_literals false)
     (low_joined ts b.literals text b.text_is)
 
 fragments_alike : (mode : Bool) (query text : List ℕ) (ts vs : List Token) (given : GivenFragments) → IsEnded mode query ts →
@@ -115,7 +116,7 @@ fragments_alike mode query text ts vs given q b v =
     let ends = expanded_closed mode ts given b.query q.low x in
     let alike = with_fragments mode (text_of (lower_names ts)) b.query (lower_names ts) q.low.is q.low.closed q.alike us x.isolated ends
     (map mark_number x.fragments) texts x.lists (low_alone mode query ts q.is (expanded_alone true mode ts given b.query x))
-    x.shapes x.tokens_of_fragments (low_joined ts texts b.query x.text_is) in
+    (expanded_shapes x) x.tokens_of_fragments (low_joined ts texts b.query x.text_is) in
     with_literals mode b.query text us x.isolated ends alike vs v (closed_of mode text (fragments_line mode ts given text q.low b) vs v)
     b.bound.literals b.bound.literal_tokens b.bound.shapes b.bound.tokens_of_literals b.bound.text_is
 
@@ -129,10 +130,10 @@ steady_fragments_alike mode query text ts vs given q b v =
     let ends = expanded_closed false ts given b.query q.low x in
     let alike = with_fragments false (text_of (lower_names ts)) b.query (lower_names ts) q.low.is q.low.closed q.alike us (b.isolated false) ends
     (map mark_number x.fragments) texts x.lists (low_alone false query ts q.is (expanded_alone true false ts given b.query x))
-    x.shapes x.tokens_of_fragments (low_joined ts texts b.query x.text_is) in
+    (expanded_shapes x) x.tokens_of_fragments (low_joined ts texts b.query x.text_is) in
     with_steady false b.query text us (b.isolated false) ends alike vs own
     (closed_of false text (steady_fragments_line ts given text q.low b false) vs own)
-    b.bound.literals b.bound.literal_tokens (bound_alone us _ text b.bound) b.bound.shapes (b.bound.tokens_of_literals false) b.bound.text_is
+    b.bound.literals b.bound.literal_tokens (bound_alone us _ text b.bound) (shapes_in b.bound) (b.bound.tokens_of_literals false) b.bound.text_is
 
 values_alike : (asked : Literals) (wanted : Portability) (query text : List ℕ) (ts vs : List Token) (given : Given) (mode : Bool) →
     IsReadIn asked mode → IsEnded (mode_of asked) query ts → IsTextFor asked wanted ts given text → IsTokens mode text vs →

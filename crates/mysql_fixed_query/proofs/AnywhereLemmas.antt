@@ -38,9 +38,9 @@ module _ {A E : Type 0} (items : A → List ℕ) (r : Result A E) (query : List 
   -- a text of a steady and portable query is one for any server
   pub made_anywhere : first_unportable (tokens_of false query) ≡ None →
       IfOk r (λ text. OnTokensIn (grammar_reading false) query (λ ts. IsGivenText steady_literal_of IsSteadyFor ts g (items text))) →
-      (mode : Bool) → IfOk r (λ text. IsAnywhereText query (tokens_of mode query) g (items text))
+      (mode : Bool) → IfOk r (λ text. IsAnywhereText (tokens_of mode query) g (items text))
   made_anywhere portable bound mode =
-      at_tokens (grammar_reading mode) query (λ ts. IfOk r (λ text. IsAnywhereText query ts g (items text)))
+      at_tokens (grammar_reading mode) query (λ ts. IfOk r (λ text. IsAnywhereText ts g (items text)))
       (anywhere_answer items r query g steady
       (on_tokens (grammar_reading false) query IsPortable (none_is_portable (tokens_of false query) portable))
       (steady_answer r bound) mode)

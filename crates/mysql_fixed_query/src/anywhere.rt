@@ -27,7 +27,7 @@ pub fn bind_named_anywhere<P: ToPairs>(
     pairs: &P,
 ) -> Result<Vec<u8>, AllocError>
     requires { IsBindableAnywhere query.now (P.pairs pairs.now) }
-    ensures bound { (mode : Bool) → IfOk result (λ text. IsAnywhereText query.now
+    ensures bound { (mode : Bool) → IfOk result (λ text. IsAnywhereText
         (tokens_of mode query.now) (given_by (valued (P.pairs pairs.now))) text.items) }
     ensures text { IfOk result (λ text. text.items ≡ steady_bound_text query.now
         (values_named with_backslashes query.now (valued (P.pairs pairs.now)))) }
@@ -50,7 +50,7 @@ pub fn bind_positional_anywhere<P: ToParams>(
 ) -> Result<Vec<u8>, AllocError>
     requires { IsBindableAnywhereByPosition query.now (P.made things.now) }
     ensures bound { (mode : Bool) → IfOk (P.made things.now) (λ given. IfOk result (λ text.
-        IsAnywhereText query.now (tokens_of mode query.now) given text.items)) }
+        IsAnywhereText (tokens_of mode query.now) given text.items)) }
     ensures text { IfOk result (λ text. text.items ≡ steady_bound_text query.now
         (values_of (P.made things.now))) }
 {

@@ -43,7 +43,7 @@ use Rattle.mysql_flat_params.specs.declared.steady_room.Steadiness.{Steadiness}
 use Rattle.mysql_flat_params.specs.declared.steady_room.Steadiness.TheVariants.{Anywhere, BothModes}
 use Rattle.mysql_flat_params.specs.declared.outcome.Outcome.{Outcome}
 use Rattle.mysql_flat_params.specs.declared.outcome.Outcome.TheVariants as variant
-use Rattle.mysql_fragments.proofs.SteadyRoomLemmas.{steady_known}
+use Rattle.mysql_steady_text.proofs.BothModesTextLemmas.{steady_known}
 
 -- ---- a query that isn't refused on its own
 

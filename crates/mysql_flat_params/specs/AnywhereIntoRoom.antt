@@ -12,7 +12,7 @@ use Rattle.mysql_flat_params.specs.declared.outcome.Outcome.TheVariants.{Unstead
 -- this is the query bound to the parameters that are given to it, for any mode and any server
 abbrev pub IsBoundAnywhere : List ℕ → Given → List ℕ → Type 0
 IsBoundAnywhere query given text =
-    (mode : Bool) → OnTokens mode query (λ ts. IsAnywhereText query ts given text)
+    (mode : Bool) → OnTokens mode query (λ ts. IsAnywhereText ts given text)
 
 -- the form has parameters, and this is the query bound to them, for any mode and any server
 abbrev pub IsAnywhereForm : (query form text : List ℕ) → Type 0

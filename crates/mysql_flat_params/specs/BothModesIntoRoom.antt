@@ -13,7 +13,7 @@ use Rattle.mysql_flat_params.specs.declared.outcome.Outcome.TheVariants.{Backsla
 -- this is the query bound to the parameters that are given to it, for both modes and any server
 abbrev pub IsBoundInBothModes : List ℕ → Given → List ℕ → Type 0
 IsBoundInBothModes query given text =
-    (mode : Bool) → OnTokens mode query (λ ts. IsPortableInBothModes query ts given text)
+    (mode : Bool) → OnTokens mode query (λ ts. IsPortableInBothModes ts given text)
 
 -- the form has parameters, and this is the query bound to them, for both modes and any server
 abbrev pub IsBothModesForm : (query form text : List ℕ) → Type 0

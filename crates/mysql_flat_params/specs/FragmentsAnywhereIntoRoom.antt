@@ -39,7 +39,7 @@ MayStandIn wide query kinds = (mode : Bool) →
 abbrev pub IsAnywhereTextIn : AnywhereCall → (query : List ℕ) → GivenFragments → (text : List ℕ)
     → Type 0
 IsAnywhereTextIn (Steady false) query given text =
-    (mode : Bool) → OnTokens mode query (λ ts. IsAnywhereFragments query ts given text)
+    (mode : Bool) → OnTokens mode query (λ ts. IsAnywhereFragments ts given text)
 IsAnywhereTextIn (Steady true) query given text =
     (mode : Bool) → OnWideTokens mode query (λ ts. IsWideAnywhereFragments ts given text)
 -- with guarded literals, for a connection that is taken to be in this mode

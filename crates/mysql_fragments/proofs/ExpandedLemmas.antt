@@ -29,6 +29,7 @@ use Rattle.mysql_binding.proofs.PieceLemmas.{bound_none, joined_text-pieces_from
 use Rattle.mysql_fragments.specs.Expanded.{IsExpanded, IsExpandedQuery}
 use Rattle.mysql_fragments.specs.FilledText.{ArePlaced}
 use Rattle.mysql_fragments.specs.FragmentErrors.{mixed_cause, later_cause, first_cause, literal_float, first_fault_from, cause_of, cause_of_places, IsCauseOrMemory, IsPlaceRefusal, refused_fragments, mixed_query}
+use Rattle.mysql_fragments.specs.FragmentShape.{AreFragments}
 use Rattle.mysql_fragments.specs.FragmentText.{all_values, fragment_text, mark_number}
 use Rattle.mysql_fragments.specs.GivenFragments.{GivenFragments, fragments_for}
 use Rattle.mysql_fragments.specs.declared.fragment.Fragment.{Fragment}
@@ -108,7 +109,6 @@ module _ (as_literals : Bool) (reading : Reading) (query : List ℕ) (ts : List 
           fragments = fragments;
           given_to_places = p.given_to_places;
           no_cause = first_by as_literals ts given fragments None p.unmixed p.given_to_places p.no_later;
-          shapes = shapes;
           text_is = exact;
           lists = lists.0;
           tokens_of_fragments = lists.1;
@@ -227,19 +227,27 @@ module _ (as_literals mode : Bool) (ts : List Token) (given : GivenFragments) (t
       let parts = no_later_parts as_literals ts x.fragments no_later_of in
       (sym (length-map x.fragments fragment_text) ∙ joined_text_count [] ts (map fragment_text x.fragments) text x.text_is, parts.2, parts.3)
 
+  -- the text of each fragment has its shape
+  shaped : AreFragments mode (map mark_number x.fragments) (map fragment_text x.fragments)
+  shaped = fragment_shapes mode 0 x.fragments expanded_parts.2
+
   many_of : length x.lists ≡ place_count ts
-  many_of = as_many mode text ts (map mark_number x.fragments) (map fragment_text x.fragments) x.lists expanded_alone x.shapes x.tokens_of_fragments x.text_is
+  many_of = as_many mode text ts (map mark_number x.fragments) (map fragment_text x.fragments) x.lists expanded_alone shaped x.tokens_of_fragments x.text_is
 
   pub expanded_nameless : names (with_literal_tokens ts x.lists) ≡ []
-  expanded_nameless = fragments_nameless mode ts (map mark_number x.fragments) (map fragment_text x.fragments) x.lists x.shapes x.tokens_of_fragments many_of
+  expanded_nameless = fragments_nameless mode ts (map mark_number x.fragments) (map fragment_text x.fragments) x.lists shaped x.tokens_of_fragments many_of
 
   pub expanded_marks : marks (with_literal_tokens ts x.lists) ≡ length (all_values x.fragments)
   expanded_marks =
-      fragments_marks mode ts (map mark_number x.fragments) (map fragment_text x.fragments) x.lists x.shapes x.tokens_of_fragments many_of ∙ mark_sum x.fragments
+      fragments_marks mode ts (map mark_number x.fragments) (map fragment_text x.fragments) x.lists shaped x.tokens_of_fragments many_of ∙ mark_sum x.fragments
 
   marks_alone : All IsWideName (names ts) → first_not_alone (with_literal_tokens ts x.lists) ≡ None
   marks_alone wide =
-      fragments_stand_alone mode ts (map mark_number x.fragments) (map fragment_text x.fragments) x.lists wide x.shapes x.tokens_of_fragments many_of expanded_alone
+      fragments_stand_alone mode ts (map mark_number x.fragments) (map fragment_text x.fragments) x.lists wide shaped x.tokens_of_fragments many_of expanded_alone
+
+pub expanded_shapes : {as_literals mode : Bool} {ts : List Token} {given : GivenFragments} {text : List ℕ} → (x : IsExpanded as_literals mode ts given text) →
+    AreFragments mode (map mark_number x.fragments) (map fragment_text x.fragments)
+expanded_shapes x = shaped _ _ _ _ _ x
 
 -- there is no cause to refuse the values of an expanded query
 pub no_cause_expanded : (mode : Bool) (ts : List Token) (given : GivenFragments) (text : List ℕ) → All IsWideName (names ts) →

@@ -34,7 +34,7 @@ use Rattle.mysql_fragments.specs.GivenFragments.{GivenFragments, fragments_for}
 use Rattle.mysql_fragments.specs.GuardedFragments.{IsGuardedFragments, IsGuardedOnServers}
 use Rattle.mysql_fragments.specs.SteadyFragments.{first_unsteady_from}
 use Rattle.mysql_fragments.specs.declared.fragment.Fragment.{Fragment}
-use Rattle.mysql_fragments.proofs.ExpandedLemmas.{expanded_alone}
+use Rattle.mysql_fragments.proofs.ExpandedLemmas.{expanded_alone, expanded_shapes}
 use Rattle.mysql_fragments.proofs.SplicedFragmentLemmas.{as_many, fragments_on, fragments_portable}
 use Rattle.mysql_fragments.proofs.SteadyFragmentLemmas.{bound_steady, texts_steady}
 
@@ -90,9 +90,9 @@ is_guarded_on_servers written query ts given text is steady p f =
     let whole = expanded_alone true false ts given f.query x in
     let alone : first_not_alone lows ≡ None = first_not_alone-lowered ts 0 [] [] (names_in_reading (wide_reading false) query ts is) (λ h. h) whole in
     let joined : joined_text (pieces lows) texts ≡ Some f.query = ap (λ ps. joined_text ps texts) (pieces-lowered [] ts) ∙ x.text_is in
-    let same : with_literal_tokens lows x.lists ≡ us = with_literal_tokens-lowered ts x.lists (as_many false f.query ts counts texts x.lists whole x.shapes x.tokens_of_fragments x.text_is) in
+    let same : with_literal_tokens lows x.lists ≡ us = with_literal_tokens-lowered ts x.lists (as_many false f.query ts counts texts x.lists whole (expanded_shapes x) x.tokens_of_fragments x.text_is) in
     let n = alone_in written us (positional (all_values x.fragments)) text b in
-    let alike : AreReadAlikeBefore [] us = subst (AreReadAlikeBefore []) same (fragments_portable false f.query lows counts texts x.lists alone x.shapes x.tokens_of_fragments joined low tokens p.alike) in
+    let alike : AreReadAlikeBefore [] us = subst (AreReadAlikeBefore []) same (fragments_portable false f.query lows counts texts x.lists alone (expanded_shapes x) x.tokens_of_fragments joined low tokens p.alike) in
     record {
       guarded_text = f;
       portable = p;
@@ -109,7 +109,7 @@ is_guarded_on_servers written query ts given text is steady p f =
           guarded_on mode (seen set text) us o.in_places.shown o.shown_tokens n o.in_places.shapes (o.tokens_of_shown mode) o.in_places.text_is f.query (f.isolated mode) alike
           server (with_literal_tokens read x.lists) honest within (
           steady_other_on server false mode f.query (with_literal_tokens read x.lists) f.steady (
-          fragments_on false f.query lows counts texts x.lists alone x.shapes x.tokens_of_fragments joined low tokens p.alike
+          fragments_on false f.query lows counts texts x.lists alone (expanded_shapes x) x.tokens_of_fragments joined low tokens p.alike
           server read honest within (steady_other_on server mode false low read low_steady (subst (λ z. IsReadOn server mode z read) (steady_seen set low low_steady) u))
           )
           );

@@ -9,22 +9,25 @@ use Rattle.mysql_named_params.specs.Reading.{OnTokensIn, grammar_reading, readin
 use Rattle.mysql_named_params.specs.Tokens.{Token, IsTokens, OnTokens, bytes_of, text_of, Name, Mark}
 use Rattle.mysql_named_params.specs.Places.{names, place_count}
 use Rattle.mysql_named_params.proofs.ReadingLemmas.{one_reading, reading_exists, reading_text}
-use Rattle.mysql_portable.specs.Portable.{IsPortable, AreReadAlikeBefore}
-use Rattle.mysql_portable.specs.Server.{IsReadOn}
+use Rattle.mysql_portable.specs.Portable.{IsPortable, AreReadAlikeBefore, IsReadAs}
+use Rattle.mysql_portable.specs.Quiet.{DecidesWithin, IsHonest}
+use Rattle.mysql_portable.specs.Server.{IsReadOn, Server}
 use Rattle.mysql_portable.specs.Steady.{first_unsteady, is_steady, IsSteady}
 use Rattle.mysql_portable.specs.declared.portable.Unportable.{Unportable}
 use Rattle.mysql_portable.proofs.OtherModeLemmas.{all_parts}
 use Rattle.mysql_portable.proofs.PlaceTextLemmas.{placeless_join_no_number}
 use Rattle.mysql_portable.proofs.SteadyLemmas.{steady_other, steady_other_on, steady_seen}
-use Rattle.mysql_params_core.specs.Given.{positional}
+use Rattle.mysql_params_core.specs.Given.{Given, positional}
 use Rattle.mysql_binding.specs.Replaced.{with_literal_tokens}
+use Rattle.mysql_binding.specs.StandsAlone.{first_not_alone}
 use Rattle.mysql_binding.proofs.BoundText.{bound}
 use Rattle.mysql_binding.proofs.CauseLemmas.{on_both, on_map}
 use Rattle.mysql_binding.proofs.PieceLemmas.{joined_text_count, joined_text_is}
+use Rattle.mysql_steady_text.specs.OnServers.{IsReadAnywhere}
 use Rattle.mysql_steady_text.specs.SteadyText.{IsSteadyText}
 use Rattle.mysql_steady_text.specs.SteadyLiteral.{steady_literal_of}
 use Rattle.mysql_steady_text.specs.SteadyLiterals.{IsSteadyFor}
-use Rattle.mysql_steady_text.proofs.SteadyTextLemmas.{is_steady_text}
+use Rattle.mysql_steady_text.proofs.SteadyTextLemmas.{is_steady_text, shapes_in}
 use Rattle.mysql_steady_text.proofs.SteadySpliceLemmas.{steady_places, steady_portable, steady_on, steady_read, all_both}
 use Rattle.mysql_steady_text.proofs.BothModesTextLemmas.{nothing_said}
 use Rattle.mysql_steady_text.proofs.WideSteadyLemmas.{steady_reading}
@@ -34,7 +37,7 @@ use Rattle.mysql_fragments.specs.FragmentText.{all_values, fragment_text, mark_n
 use Rattle.mysql_fragments.specs.GivenFragments.{GivenFragments, fragments_for}
 use Rattle.mysql_fragments.specs.declared.fragment.Fragment.{Fragment}
 use Rattle.mysql_fragments.proofs.CauseLemmas.{first_by}
-use Rattle.mysql_fragments.proofs.ExpandedLemmas.{expanded_alone}
+use Rattle.mysql_fragments.proofs.ExpandedLemmas.{expanded_alone, expanded_shapes}
 use Rattle.mysql_fragments.proofs.SplicedFragmentLemmas.{fragments_on, fragments_portable}
 use Rattle.mysql_fragments.specs.SteadyFragments.{first_unsteady_from, unsteady_place, IsSteadyFragments, IsAnywhereFragments}
 use Rattle.mysql_fragments.specs.SteadyFragmentsErrors.{IsFragmentsRefusal, IsSteadyRefusal}
@@ -119,38 +122,61 @@ is_steady_fragments ts given expanded text x s b =
       bound = b;
     }
 
-is_anywhere_fragments : (query : List ℕ) (ts : List Token) (given : GivenFragments) (text : List ℕ) → IsTokens false query ts →
-    IsSteady query → IsPortable ts → IsSteadyFragments ts given text → IsAnywhereFragments query ts given text
-is_anywhere_fragments query ts given text is steady p f =
-    let x = f.expanded in
-    let b = f.bound in
-    let us : List Token = with_literal_tokens ts x.lists in
-    let counts : List ℕ = map mark_number x.fragments in
-    let texts : List (List ℕ) = map fragment_text x.fragments in
-    let alone = expanded_alone true false ts given f.query x in
-    let n = bound_alone us (positional (all_values x.fragments)) text b in
-    let alike : AreReadAlikeBefore [] us = fragments_portable false f.query ts counts texts x.lists alone x.shapes x.tokens_of_fragments x.text_is query is p.alike in
-    record {
-      steady_text = f;
-      portable = p;
-      portable_text = record {
-        alike = steady_portable true text us b.literals b.literal_tokens n b.shapes (b.tokens_of_literals true) b.text_is f.query (f.isolated true) alike;
-        apart = placeless_join_no_number true _ (b.isolated true).each (steady_places true text us b.literals b.literal_tokens n b.shapes (b.tokens_of_literals true) b.text_is);
-      };
-      read = λ server mode set vs honest v.
-          steady_read mode text us b.literals b.literal_tokens n b.shapes (b.tokens_of_literals mode) b.text_is f.query (f.isolated mode) alike
-          server vs honest (subst (λ z. IsReadOn server mode z vs) (steady_seen set text b.steady) v);
-      tokens = λ server mode set read honest within u.
-          subst (λ z. IsReadOn server mode z (with_literal_tokens (with_literal_tokens read x.lists) b.literal_tokens)) (sym (steady_seen set text b.steady)) (
-          steady_on mode text us b.literals b.literal_tokens n b.shapes (b.tokens_of_literals mode) b.text_is f.query (f.isolated mode) alike
-          server (with_literal_tokens read x.lists) honest within (
-          steady_other_on server false mode f.query (with_literal_tokens read x.lists) f.steady (
-          fragments_on false f.query ts counts texts x.lists alone x.shapes x.tokens_of_fragments x.text_is query is p.alike
-          server read honest within (steady_other_on server mode false query read steady (subst (λ z. IsReadOn server mode z read) (steady_seen set query steady) u))
-          )
-          )
-          );
-    }
+-- the text of a query whose expanded query is read alike
+module _ (us : List Token) (given : Given) (query text : List ℕ) (is : (mode : Bool) → IsTokens mode query us) (steady : IsSteady query) (alike : AreReadAlikeBefore [] us) (b : IsSteadyText us given text) where
+  alone : first_not_alone us ≡ None
+  alone = bound_alone us given text b
+
+  pub portable_expanded : IsPortable (with_literal_tokens us b.literal_tokens)
+  portable_expanded = record {
+    alike = steady_portable true text us b.literals b.literal_tokens alone (shapes_in b) (b.tokens_of_literals true) b.text_is query (is true) alike;
+    apart = placeless_join_no_number true _ (b.isolated true).each (steady_places true text us b.literals b.literal_tokens alone (shapes_in b) (b.tokens_of_literals true) b.text_is);
+  }
+
+  -- servers read it by the query without the fragments, if they read the expanded query so
+  pub expanded_on_servers : (own : List ℕ) (ts : List Token) (lists : List (List Token)) → IsSteady own → with_literal_tokens ts lists ≡ us →
+      ((server : Server) (read : List Token) → IsHonest server → DecidesWithin server → IsReadOn server false own read →
+      IsReadOn server false query (with_literal_tokens read lists)) →
+      IsReadAnywhere own ts (λ read. with_literal_tokens (with_literal_tokens read lists) b.literal_tokens) text
+  expanded_on_servers own ts lists s same on = record {
+    read = λ server mode set vs honest v.
+        subst (λ ws. IsReadAs (with_literal_tokens ws b.literal_tokens) vs) (sym same) (
+        steady_read mode text us b.literals b.literal_tokens alone (shapes_in b) (b.tokens_of_literals mode) b.text_is query (is mode) alike
+        server vs honest (subst (λ z. IsReadOn server mode z vs) (steady_seen set text b.steady) v)
+        );
+    tokens = λ server mode set read honest within u.
+        subst (λ z. IsReadOn server mode z (with_literal_tokens (with_literal_tokens read lists) b.literal_tokens)) (sym (steady_seen set text b.steady)) (
+        steady_on mode text us b.literals b.literal_tokens alone (shapes_in b) (b.tokens_of_literals mode) b.text_is query (is mode) alike
+        server (with_literal_tokens read lists) honest within (
+        steady_other_on server false mode query (with_literal_tokens read lists) steady (
+        on server read honest within (steady_other_on server mode false own read s (subst (λ z. IsReadOn server mode z read) (steady_seen set own s) u))
+        )
+        )
+        );
+  }
+
+module _ (query : List ℕ) (ts : List Token) (given : GivenFragments) (text : List ℕ) (is : IsTokens false query ts) (steady : IsSteady query) (p : IsPortable ts) (f : IsSteadyFragments ts given text) where
+  abbrev expanded : List Token
+  expanded = with_literal_tokens ts f.expanded.lists
+
+  alike : AreReadAlikeBefore [] expanded
+  alike =
+      fragments_portable false f.query ts (map mark_number f.expanded.fragments) (map fragment_text f.expanded.fragments) f.expanded.lists (expanded_alone true false ts given f.query f.expanded)
+      (expanded_shapes f.expanded) f.expanded.tokens_of_fragments f.expanded.text_is query is p.alike
+
+  is_anywhere_fragments : IsAnywhereFragments ts given text
+  is_anywhere_fragments = record {
+    steady_text = f;
+    portable = p;
+    portable_text = portable_expanded expanded (positional (all_values f.expanded.fragments)) f.query text f.isolated f.steady alike f.bound;
+  }
+
+  pub anywhere_on_servers : IsReadAnywhere query ts (λ read. with_literal_tokens (with_literal_tokens read f.expanded.lists) f.bound.literal_tokens) text
+  anywhere_on_servers =
+      expanded_on_servers expanded (positional (all_values f.expanded.fragments)) f.query text f.isolated f.steady alike f.bound query ts f.expanded.lists steady refl
+      (λ server read honest within u.
+      fragments_on false f.query ts (map mark_number f.expanded.fragments) (map fragment_text f.expanded.fragments) f.expanded.lists (expanded_alone true false ts given f.query f.expanded)
+      (expanded_shapes f.expanded) f.expanded.tokens_of_fragments f.expanded.text_is query is p.alike server read honest within u)
 
 -- ---- as the calls promise it
 
@@ -195,7 +221,7 @@ nothing_read wide mode query = let t = reading_exists (reading_with wide mode) q
 pub anywhere_fragments : {A E : Type 0} (items : A → List ℕ) (r : Result A E) (query : List ℕ) (given : GivenFragments) → IsSteady query →
     OnTokens false query IsPortable →
     ((mode : Bool) → OnTokens mode query (λ ts. IfOk r (λ text. IsSteadyFragments ts given (items text)))) →
-    (mode : Bool) → OnTokens mode query (λ ts. IfOk r (λ text. IsAnywhereFragments query ts given (items text)))
+    (mode : Bool) → OnTokens mode query (λ ts. IfOk r (λ text. IsAnywhereFragments ts given (items text)))
 anywhere_fragments items (Ok text) query given steady p b mode =
     let o = on_both (grammar_reading false) query IsPortable (λ ts. IsSteadyFragments ts given (items text)) p (b false) in
     (o.0, steady_other false mode query o.0 steady o.1, is_anywhere_fragments query o.0 given (items text) o.1 steady o.2.0 o.2.1)

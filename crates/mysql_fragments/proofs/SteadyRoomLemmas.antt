@@ -1,8 +1,6 @@
 -- The text for any mode, and for any server, of a query with fragments, in a room of the caller.
-use Rattle.std.specs.Prelude.{Bool, false, IfSome}
-use Rattle.std.proofs.Common.{◌≡◌, ℕ, true, List, None, Some, subst}
-use Rattle.mysql_values.specs.Value.{FieldsInRange}
-use Rattle.mysql_values.specs.declared.value.Value.{Value}
+use Rattle.std.specs.Prelude.{Bool, false}
+use Rattle.std.proofs.Common.{◌≡◌, ℕ, true, List, None}
 use Rattle.mysql_named_params.specs.Reading.{OnTokensIn, reading_with}
 use Rattle.mysql_portable.specs.Steady.{IsSteady}
 use Rattle.mysql_params_core.specs.Given.{positional}
@@ -16,9 +14,7 @@ use Rattle.mysql_fragments.specs.FragmentsInRoom.{HasFilledLength}
 use Rattle.mysql_fragments.specs.GivenFragments.{GivenFragments}
 use Rattle.mysql_fragments.specs.declared.fragment.Fragment.{Fragment}
 use Rattle.mysql_steady_text.specs.SteadyLiteral.{steady_literal_of}
-use Rattle.mysql_steady_text.specs.SteadyShape.{IsSteadyLiteral}
-use Rattle.mysql_steady_text.specs.ReadSteadyLiteral.{ReadsSteadyAs}
-use Rattle.mysql_steady_text.proofs.SteadyLiteralLemmas.{steady_shape, steady_bytes, steady_reads}
+use Rattle.mysql_steady_text.proofs.BothModesTextLemmas.{steady_known}
 use Rattle.mysql_steady_text.specs.SteadyLiterals.{IsSteadyFor}
 use Rattle.mysql_fragments.specs.SteadyFragments.{IsSteadyFragments, first_unsteady_from}
 use Rattle.mysql_fragments.proofs.SteadyFragmentLemmas.{steady_fragments_on}
@@ -28,13 +24,6 @@ abbrev pub BoundSteadily : (wide : Bool) → List ℕ → GivenFragments → Lis
 BoundSteadily wide query given text = (mode : Bool) → OnTokensIn (reading_with wide mode) query (λ ts. IsSteadyFragments ts given text)
 
 -- ---- the text of a steady query
-
-pub steady_known : (v : Value) (text : List ℕ) → FieldsInRange v → steady_literal_of v ≡ Some text → IsSteadyFor v text
-steady_known v text range is = (
-  subst (λ o. IfSome o IsSteadyLiteral) is (steady_shape v range),
-  subst (λ o. IfSome o IsSteady) is (steady_bytes v range),
-  subst (λ o. IfSome o (ReadsSteadyAs v)) is (steady_reads v range),
-)
 
 module _ (wide : Bool) (query : List ℕ) (given : GivenFragments) (said : List Fragment) (steady : IsSteady query)
     (p : OnTokensIn (reading_with wide false) query (λ ts. ArePlaced true ts given said)) (none : None ≡ first_unsteady_from 0 said) (old new : List ℕ) (text : TextInRoom) where

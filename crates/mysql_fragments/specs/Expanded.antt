@@ -8,14 +8,13 @@ use Rattle.mysql_binding.specs.Isolation.{IsBoundText}
 use Rattle.mysql_binding.specs.Pieces.{pieces, joined_text}
 use Rattle.mysql_binding.specs.Replaced.{AreTokensOf, with_literal_tokens}
 use Rattle.mysql_fragments.specs.FragmentErrors.{first_cause}
-use Rattle.mysql_fragments.specs.FragmentShape.{AreFragments}
-use Rattle.mysql_fragments.specs.FragmentText.{all_values, fragment_text, mark_number}
+use Rattle.mysql_fragments.specs.FragmentText.{all_values, fragment_text}
 use Rattle.mysql_fragments.specs.GivenFragments.{GivenFragments, fragments_for}
 use Rattle.mysql_fragments.specs.declared.fragment.Fragment.{Fragment}
 
 -- The expanded query of a query with these tokens and of the fragments that are given to it: a
 -- fragment in each of its places, with a mark for each value of the fragment. Floats are refused
--- only if the values are to be written as literals.
+-- only if the values are to be written as literals. The law `fragments_have_shapes` says more.
 pub record IsExpanded (as_literals mode : Bool) (ts : List Token) (given : GivenFragments)
     (text : List ℕ) : Type 0 where
   -- there are the fragments of the places, in order,
@@ -23,9 +22,7 @@ pub record IsExpanded (as_literals mode : Bool) (ts : List Token) (given : Given
   pub given_to_places : fragments_for given (names ts) ≡ Ok fragments
   -- and no cause to refuse them.
   pub no_cause : first_cause as_literals ts given ≡ None
-  -- The text of each has the shape of a fragment with a mark for each of its values,
-  pub shapes : AreFragments mode (map mark_number fragments) (map fragment_text fragments)
-  -- and the text is exactly the pieces of the query with one of them between each and the next.
+  -- The text is exactly the pieces of the query with the text of one between each and the next.
   pub text_is : joined_text (pieces ts) (map fragment_text fragments) ≡ Some text
   -- There are the tokens of the text of each fragment, read on its own,
   pub lists : List (List Token)

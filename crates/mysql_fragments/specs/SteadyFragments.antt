@@ -1,16 +1,14 @@
 -- The promises about a text with fragments for any mode, and for any server: those of
 -- SteadyText.antt (of mysql_steady_text) for the expanded query and its values.
 -- `bind_fragments_in_any_mode` promises the first record, and `bind_fragments_anywhere` the second.
--- If there is no text, an error reports the cause (SteadyFragmentsErrors.antt).
+-- If there is no text, an error reports the cause (SteadyFragmentsErrors.antt). The law
+-- `anywhere_fragments_on_servers` says how every server reads the text.
 use Rattle.std.specs.Prelude.{◌≡◌, ◌+◌, ℕ, Bool, true, List, [], ◌∷◌, if◌then◌else◌, Option, None, Some, Ok, Err}
 use Rattle.std.specs.List.{list_all}
 use Rattle.mysql_sql_text.specs.StringUnits.{with_backslashes}
 use Rattle.mysql_named_params.specs.Tokens.{Token, IsTokens}
-use Rattle.mysql_portable.specs.Portable.{IsPortable, IsReadAs}
-use Rattle.mysql_portable.specs.ServerTokens.{Server, IsReadOn}
-use Rattle.mysql_portable.specs.Quiet.{IsHonest, DecidesWithin}
+use Rattle.mysql_portable.specs.Portable.{IsPortable}
 use Rattle.mysql_portable.specs.SteadyBytes.{is_steady, IsSteady}
-use Rattle.mysql_portable.specs.CharacterSet.{CharacterSet, seen}
 use Rattle.mysql_params_core.specs.GivenValues.{positional}
 use Rattle.mysql_binding.specs.Replaced.{with_literal_tokens}
 use Rattle.mysql_steady_text.specs.SteadyText.{IsSteadyText}
@@ -47,28 +45,13 @@ pub record IsSteadyFragments (ts : List Token) (given : GivenFragments) (text : 
   pub bound : IsSteadyText (with_literal_tokens ts expanded.lists)
       (positional (all_values expanded.fragments)) text
 
--- The text, for any mode and any server, of this query, which has these tokens, and the fragments
--- that are given to it. A server sees a text through the character set of the connection.
-pub record IsAnywhereFragments (query : List ℕ) (ts : List Token) (given : GivenFragments)
-    (text : List ℕ) : Type 0 where
+-- the text, for any mode and any server, of a query with these tokens and the fragments that are
+-- given to it
+pub record IsAnywhereFragments (ts : List Token) (given : GivenFragments) (text : List ℕ)
+    : Type 0 where
   -- It is a text for any mode,
   pub steady_text : IsSteadyFragments ts given text
   -- the query is portable, and so is the text.
   pub portable : IsPortable ts
   pub portable_text : IsPortable (with_literal_tokens
       (with_literal_tokens ts steady_text.expanded.lists) steady_text.bound.literal_tokens)
-  -- On every honest server, in either mode and over every character set, its tokens are those of
-  -- the query, replaced. Each name and mark is replaced by the tokens of one fragment, and then
-  -- each mark of a fragment by the tokens of one literal. These are the tokens that the grammar
-  -- reads, except for `--` before a newline and the contents of quiet comments.
-  pub read : (server : Server) (mode : Bool) (set : CharacterSet) (vs : List Token) →
-      IsHonest server → IsReadOn server mode (seen set text) vs →
-      IsReadAs (with_literal_tokens (with_literal_tokens ts steady_text.expanded.lists)
-      steady_text.bound.literal_tokens) vs
-  -- If the server decides about a quiet comment by its own text, the tokens are exactly those that
-  -- it reads in the query, replaced.
-  pub tokens : (server : Server) (mode : Bool) (set : CharacterSet) (us : List Token) →
-      IsHonest server → DecidesWithin server → IsReadOn server mode (seen set query) us →
-      IsReadOn server mode (seen set text)
-      (with_literal_tokens (with_literal_tokens us steady_text.expanded.lists)
-      steady_text.bound.literal_tokens)

@@ -1,13 +1,11 @@
 -- The promises about a text with fragments by wide names, for any mode and any server, and the
 -- causes of its errors. The query with its names in lower case has to be portable, as for values
--- (WideAnywhere.antt of mysql_steady_text).
-use Rattle.std.specs.Prelude.{◌≡◌, ◌⊎◌, ℕ, Bool, List, Option, alloc_error}
+-- (WideAnywhere.antt of mysql_steady_text). The law `anywhere_fragments_on_servers` says how every
+-- server reads the text.
+use Rattle.std.specs.Prelude.{◌≡◌, ◌⊎◌, ℕ, List, Option, alloc_error}
 use Rattle.mysql_named_params.specs.LoweredNames.{lower_names}
-use Rattle.mysql_named_params.specs.Tokens.{Token, text_of}
-use Rattle.mysql_portable.specs.CharacterSet.{CharacterSet, seen}
-use Rattle.mysql_portable.specs.Portable.{IsPortable, IsReadAs}
-use Rattle.mysql_portable.specs.Quiet.{IsHonest, DecidesWithin}
-use Rattle.mysql_portable.specs.ServerTokens.{Server, IsReadOn}
+use Rattle.mysql_named_params.specs.Tokens.{Token}
+use Rattle.mysql_portable.specs.Portable.{IsPortable}
 use Rattle.mysql_portable.specs.declared.portable.Unportable.{Unportable}
 use Rattle.mysql_binding.specs.Replaced.{with_literal_tokens}
 use Rattle.mysql_fragments.specs.GivenFragments.{GivenFragments}
@@ -27,22 +25,6 @@ pub record IsWideAnywhereFragments (ts : List Token) (given : GivenFragments) (t
   pub portable : IsPortable (lower_names ts)
   pub portable_text : IsPortable (with_literal_tokens
       (with_literal_tokens ts steady_text.expanded.lists) steady_text.bound.literal_tokens)
-  -- On every honest server, in either mode and over every character set, its tokens are those of
-  -- the query, replaced. Each name and mark is replaced by the tokens of one fragment, and then
-  -- each mark of a fragment by the tokens of one literal. These are the tokens that the grammar
-  -- reads, except for `--` before a newline and the contents of quiet comments.
-  pub read : (server : Server) (mode : Bool) (set : CharacterSet) (vs : List Token) →
-      IsHonest server → IsReadOn server mode (seen set text) vs →
-      IsReadAs (with_literal_tokens (with_literal_tokens ts steady_text.expanded.lists)
-      steady_text.bound.literal_tokens) vs
-  -- If the server decides about a quiet comment by its own text, the tokens are exactly those that
-  -- it reads in the query with its names in lower case, replaced.
-  pub tokens : (server : Server) (mode : Bool) (set : CharacterSet) (us : List Token) →
-      IsHonest server → DecidesWithin server →
-      IsReadOn server mode (seen set (text_of (lower_names ts))) us →
-      IsReadOn server mode (seen set text)
-      (with_literal_tokens (with_literal_tokens us steady_text.expanded.lists)
-      steady_text.bound.literal_tokens)
 
 -- The error is the first cause that holds, as without wide names, or out of memory. Memory may also
 -- be refused for the copy of the query in lower case.

@@ -27,12 +27,12 @@ ghost use Rattle.mysql_steady_text.specs.GuardedLiteral.{guarded_literal_of};
 ghost use Rattle.mysql_steady_text.specs.SteadyLiteral.{steady_literal_of};
 ghost use Rattle.mysql_float_literal.specs.DoubleShape.{IsDouble};
 ghost use Rattle.mysql_fragments.specs.BorrowedFragments.{AreSaid, HaveFewCells};
-ghost use Rattle.mysql_fragments.specs.Expanded.{IsBoundFragments};
+ghost use Rattle.mysql_fragments.specs.Expanded.{IsBoundFragments, IsExpanded};
 ghost use Rattle.mysql_fragments.specs.FragmentErrors as fragments;
 ghost use Rattle.mysql_fragments.specs.FragmentFaults.{is_decimal};
 ghost use Rattle.mysql_fragments.specs.FragmentShape.{AreFragments};
 ghost use Rattle.mysql_fragments.specs.FragmentsInPlace.{ReadAsThemselves};
-ghost use Rattle.mysql_fragments.specs.FragmentText.{fragment_text, identifier_text, joined};
+ghost use Rattle.mysql_fragments.specs.FragmentText.{fragment_text, identifier_text, joined, mark_number};
 ghost use Rattle.mysql_fragments.specs.GivenFragments.{GivenFragments, fragments_for};
 ghost use Rattle.mysql_fragments.specs.GuardedFragments.{IsGuardedFragments};
 ghost use Rattle.mysql_fragments.specs.ReadFragment.{AreReadAsNames, ReadsAsOne, is_backquote, read_exact, read_identifier};
@@ -46,13 +46,23 @@ ghost use Rattle.mysql_fragments.specs.declared.fragment_ref.FragmentRef as borr
 mod steady;
 
 use mysql_binding::laws::{bound_texts_are_sent, bound_texts_in_clients, bound_texts_on_servers};
-pub use steady::{steady_fragments_are_sent, steady_fragments_in_clients};
+pub use steady::{
+    anywhere_fragments_on_servers, steady_fragments_are_sent, steady_fragments_in_clients,
+};
 
 /// For borrowed fragments there are fragments of the same content, of any allocator, if no list and
 /// no rows have 2^63 cells or more. So a promise about all such fragments is never empty.
 pub fn said_fragments_exist()
     ensures exist { (alloc : Global) (fragments : List borrowed.FragmentRef) →
         HaveFewCells fragments → (said : List said_fragment.Fragment) × AreSaid fragments said }
+{}
+
+/// The text of each fragment of an expanded query has the shape of a fragment, with a mark for each
+/// of its values.
+pub fn fragments_have_shapes()
+    ensures { (as_literals mode : Bool) (ts : List Token) (given : GivenFragments)
+        (text : List ℕ) → (x : IsExpanded as_literals mode ts given text) →
+        AreFragments mode (map mark_number x.fragments) (map fragment_text x.fragments) }
 {}
 
 /// For a query whose places stand alone, and any texts of the shape of fragments in these places:

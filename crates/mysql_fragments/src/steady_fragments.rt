@@ -53,7 +53,7 @@ pub fn bind_fragments_anywhere(
     fragments: &Fragments,
 ) -> Result<Vec<u8>, SteadyFragmentsError>
     ensures bound { (mode : Bool) → OnTokens mode query.now (λ ts. IfOk result (λ text.
-        IsAnywhereFragments query.now ts (given_fragments fragments.now) text.items)) }
+        IsAnywhereFragments ts (given_fragments fragments.now) text.items)) }
     ensures refused { (mode : Bool) → OnTokens mode query.now (λ ts. IfErr result
         (IsSteadyRefusal query.now (first_unportable ts) ts (given_fragments fragments.now))) }
 

@@ -15,7 +15,7 @@ use Rattle.mysql_portable.specs.Steady.{HoldNoEscapes}
 use Rattle.mysql_portable.proofs.OtherModeLemmas.{tokens_other}
 use Rattle.mysql_params_core.specs.Given.{Given, empty, positional}
 use Rattle.mysql_params_core.specs.Lookup.{lookup}
-use Rattle.mysql_binding.specs.Contents.{contents_between, AreReadInPlace}
+use Rattle.mysql_binding.specs.Contents.{contents_between}
 use Rattle.mysql_binding.specs.Pieces.{pieces, joined_text}
 use Rattle.mysql_binding.specs.Replaced.{with_literal_tokens}
 use Rattle.mysql_binding.proofs.BoundAgainLemmas.{pieces-with_marks, with_literal_tokens-with_marks}
@@ -25,7 +25,7 @@ use Rattle.mysql_binding.proofs.SpliceLemmas.{as_many_lists}
 use Rattle.mysql_steady_text.specs.ReadSteadyLiteral.{read_steady_literal}
 use Rattle.mysql_steady_text.specs.BothModesText.{IsTextInBothModes, IsBoundAgainInBothModes, IsByPositionInBothModes}
 use Rattle.mysql_steady_text.proofs.SteadySpliceLemmas.{steady_places}
-use Rattle.mysql_steady_text.proofs.BothModesTextLemmas.{in_both_modes}
+use Rattle.mysql_steady_text.proofs.BothModesTextLemmas.{in_both_modes, said_in_both, shapes_of}
 
 -- ---- no place is left
 
@@ -33,7 +33,7 @@ places_of : (ts : List Token) (given : Given) (text : List ℕ) → (t : IsTextI
     place_count (with_literal_tokens ts t.literal_tokens) ≡ 0
 places_of ts given text t =
     let parts = no_cause_parts ts given t.values t.no_cause t.looked_up in
-    steady_places true text ts t.literals t.literal_tokens (no_place_out ts t.values parts.1) t.shapes (t.tokens_of_literals true) t.text_is
+    steady_places true text ts t.literals t.literal_tokens (no_place_out ts t.values parts.1) (shapes_of t.values t.literals t.in_range t.written) (t.tokens_of_literals true) t.text_is
 
 pub no_place_is_left : (mode : Bool) (ts us : List Token) (given : Given) (text : List ℕ) →
     IsTextInBothModes ts given text → IsTokens mode text us → place_count us ≡ 0
@@ -80,18 +80,14 @@ by_position_is_the_same reading query text ts given is t =
       values = t.values;
       literals = t.literals;
       literal_tokens = t.literal_tokens;
-      contents = t.contents;
       isolated = λ other. subst (IsTokens other text) (sym tokens) (t.isolated other);
-      reads_in_place = λ other. subst (λ ps. AreReadInPlace (read_steady_literal other) ps t.literals t.contents) (sym same) (t.reads_in_place other);
       no_escapes = subst HoldNoEscapes (sym tokens) t.no_escapes;
       no_cause = no_cause_renamed ts t.values (names_in_reading reading query ts is) room (no_place_out ts t.values parts.1) (no_float_cause ts t.values parts.1);
       looked_up = ap (lookup (positional t.values)) (names-with_marks ts);
+      in_range = t.in_range;
       written = t.written;
-      shapes = t.shapes;
       text_is = ap (λ ps. joined_text ps t.literals) same ∙ t.text_is;
       tokens_of_literals = t.tokens_of_literals;
-      contents_are = t.contents_are;
-      read_back = λ other. ap (λ ps. contents_between (read_steady_literal other) ps text) same ∙ t.read_back other;
     }
 
 -- ---- equal texts
@@ -101,9 +97,11 @@ pub equal_texts_say_the_same : (mode : Bool) (query text : List ℕ) (ts us : Li
     map content_of x.values ≡ map content_of y.values
 equal_texts_say_the_same mode query text ts us a b is is' x y =
     let tokens : ts ≡ us = one_token_list mode query ts us is is' in
-    let same : Some x.contents ≡ Some y.contents = sym (x.read_back true) ∙ (ap (λ l. contents_between (read_steady_literal true) (pieces l) text) tokens ∙ y.read_back true) in
-    let said : x.contents ≡ y.contents = cc in
-    x.contents_are ∙ (ap (map Some) said ∙ sym y.contents_are)
+    let p = said_in_both ts a text x in
+    let q = said_in_both us b text y in
+    let same : Some p.contents ≡ Some q.contents = sym (p.read_back true) ∙ (ap (λ l. contents_between (read_steady_literal true) (pieces l) text) tokens ∙ q.read_back true) in
+    let said : p.contents ≡ q.contents = cc in
+    p.contents_are ∙ (ap (map Some) said ∙ sym q.contents_are)
 
 -- ---- as the calls promise it
 

@@ -55,7 +55,7 @@ bound_answer items query given none (Err e) o = o
 -- of a text that is bound
 module _ (query : List ℕ) (given : Given) (text : List ℕ) (none : Agree query) (o : OnTokens true query (λ ts. IsTextInBothModes ts given text)) where
   pub portable_answer : OnTokens true query (λ ts. first_unportable ts ≡ None) → (mode : Bool) →
-      OnTokens mode query (λ ts. IsPortableInBothModes query ts given text)
+      OnTokens mode query (λ ts. IsPortableInBothModes ts given text)
   portable_answer p mode =
       let b = on_both (grammar_reading true) query HoldNoEscapes (λ ts. (first_unportable ts ≡ None) × IsTextInBothModes ts given text) none (on_both (grammar_reading true) query (λ ts. first_unportable ts ≡ None) (λ ts. IsTextInBothModes ts given text) p o) in (
         b.0,

@@ -1,21 +1,21 @@
 -- Texts for both modes of queries with wide names: by the query with marks, and by the one with names
 -- in lower case.
 use Rattle.std.specs.Prelude.{Bool, Result, Ok, Err, IfErr, IfOk, Option, Some}
-use Rattle.std.proofs.Common.{◌≡◌, ◌+◌, ◌∙◌, ℕ, true, false, List, [], ◌∷◌, None, arith, inr, length, refl, sym, ap, subst, length-append}
+use Rattle.std.proofs.Common.{◌≡◌, ◌+◌, ◌∙◌, ℕ, All, true, false, List, [], ◌∷◌, None, arith, inr, length, refl, sym, ap, subst, length-append}
 use Rattle.std.specs.Option.{option_or}
 use Rattle.mysql_values.specs.declared.value.Value.{Value}
 use Rattle.mysql_named_params.specs.LoweredNames.{lower_names}
 use Rattle.mysql_named_params.specs.Places.{names, place_count, with_marks}
 use Rattle.mysql_named_params.specs.Reading.{IsTokensIn, OnTokensIn, OnWideTokens, reading_with, wide_reading}
 use Rattle.mysql_named_params.specs.Tokens.{Token, IsTokens, OnTokens, bytes_of, text_of, Name, Plain}
-use Rattle.mysql_named_params.specs.WideNames.{run, widened, widened_from}
+use Rattle.mysql_named_params.specs.WideNames.{IsWideName, run, widened, widened_from}
 use Rattle.mysql_named_params.proofs.LoweredLemmas.{lowered_tokens}
 use Rattle.mysql_named_params.proofs.ReparsedLemmas.{marked_reading, names_in_reading, names-with_marks}
 use Rattle.mysql_named_params.proofs.TokenListLemmas.{one_token_list}
 use Rattle.mysql_named_params.proofs.WideLemmas.{goes_on, none_taken, opens, plain_case, stays, taken, taken_colon, taken_none, taken_wide}
 use Rattle.mysql_portable.specs.Clear.{is_clear}
 use Rattle.mysql_portable.specs.FirstUnportable.{first_unportable}
-use Rattle.mysql_portable.specs.Portable.{IsPortable, IsReadAs}
+use Rattle.mysql_portable.specs.Portable.{IsPortable}
 use Rattle.mysql_portable.specs.Steady.{HoldNoEscapes}
 use Rattle.mysql_portable.specs.declared.portable.Unportable.{Unportable}
 use Rattle.mysql_portable.proofs.ClearLemmas.{clear_query_is_steady}
@@ -24,11 +24,9 @@ use Rattle.mysql_portable.proofs.OtherModeLemmas.{tokens_other}
 use Rattle.mysql_params_core.specs.Given.{Given, positional}
 use Rattle.mysql_params_core.specs.Lookup.{lookup}
 use Rattle.mysql_binding.specs.BindErrors.{IsCauseOrMemory}
-use Rattle.mysql_binding.specs.Contents.{AreReadInPlace, contents_between}
 use Rattle.mysql_binding.specs.FirstCause.{first_cause}
 use Rattle.mysql_binding.specs.Pieces.{pieces, joined_text}
 use Rattle.mysql_binding.specs.Replaced.{with_literal_tokens}
-use Rattle.mysql_binding.specs.StandsAlone.{first_not_alone}
 use Rattle.mysql_binding.specs.WrittenText.{IsGivenText}
 use Rattle.mysql_binding.proofs.BoundAgainLemmas.{pieces-with_marks, with_literal_tokens-with_marks}
 use Rattle.mysql_binding.proofs.CauseLemmas.{on_both, on_map}
@@ -38,7 +36,7 @@ use Rattle.mysql_steady_text.specs.BothModesText.{IsBoundAgainInBothModes, IsByP
 use Rattle.mysql_steady_text.specs.FirstBackslash.{backslash_in, first_backslash, first_backslash_from}
 use Rattle.mysql_steady_text.specs.SteadyLiteral.{steady_literal_of}
 use Rattle.mysql_steady_text.specs.SteadyLiterals.{IsSteadyFor}
-use Rattle.mysql_steady_text.specs.SteadyReader.{read_steady_literal}
+use Rattle.mysql_steady_text.specs.OnServers.{IsReadInBothModes}
 use Rattle.mysql_steady_text.specs.WideBothModes.{IsBothModesBindRefusal, IsWideBothModesRefusal, IsWideTextInBothModes}
 use Rattle.mysql_steady_text.specs.declared.both_modes_error.BothModesError.{BothModesError}
 use Rattle.mysql_steady_text.specs.declared.both_modes_error.BothModesError.TheVariants.{Backslash, Bind}
@@ -46,8 +44,8 @@ use Rattle.mysql_steady_text.specs.declared.both_modes_error.BothModesError.TheV
 use Rattle.mysql_steady_text.proofs.BackslashLemmas.{hold_no_escapes, steady_has_none}
 use Rattle.mysql_steady_text.proofs.BothModesAgainLemmas.{again_of, positioned_of}
 use Rattle.mysql_steady_text.proofs.BothModesAnswerLemmas.{Agree, agree, in_each_mode}
-use Rattle.mysql_steady_text.proofs.BothModesTextLemmas.{alone_in, in_both_modes, is_portable, read_in_both, tokens_in_both}
-use Rattle.mysql_steady_text.proofs.WideSteadyLemmas.{first_not_alone-lowered, marked_given, pieces-lowered, wide_nothing, with_literal_tokens-lowered}
+use Rattle.mysql_steady_text.proofs.BothModesTextLemmas.{in_both_modes, no_escapes_out}
+use Rattle.mysql_steady_text.proofs.WideSteadyLemmas.{lowered_on_servers, lowered_portable, marked_given, wide_nothing}
 
 -- ---- backslashes: no wide name has one
 
@@ -60,6 +58,16 @@ no_escapes_from inside (Plain b ∷ ts) h = elim (plain_case inside b ts) [
 ]
 no_escapes_from inside (Name name ∷ ts) h = (refl, no_escapes_from true ts h.1)
 no_escapes_from inside (t ∷ ts) h = (h.0, no_escapes_from false ts h.1)
+
+no_escapes_back : (inside : Bool) (own : List Token) → HoldNoEscapes (widened_from inside own) → HoldNoEscapes own
+no_escapes_back inside [] h = h
+no_escapes_back inside (Plain b ∷ ts) h = elim (plain_case inside b ts) [
+  | goes_on i w e ↦ (refl, no_escapes_back true ts (subst HoldNoEscapes e h))
+  | opens c w e ↦ let k : HoldNoEscapes (Name (run ts) ∷ widened_from true ts) = subst HoldNoEscapes e h in (refl, no_escapes_back true ts k.1)
+  | stays i c e ↦ let k : HoldNoEscapes (Plain b ∷ widened_from false ts) = subst HoldNoEscapes e h in (refl, no_escapes_back false ts k.1)
+]
+no_escapes_back inside (Name name ∷ ts) h = (refl, no_escapes_back true ts h.1)
+no_escapes_back inside (t ∷ ts) h = (h.0, no_escapes_back false ts h.1)
 
 marked_no_escapes : (ts : List Token) → HoldNoEscapes ts → HoldNoEscapes (with_marks ts)
 marked_no_escapes [] h = h
@@ -170,18 +178,14 @@ from_marks ts given values text l none t =
       values = t.values;
       literals = t.literals;
       literal_tokens = t.literal_tokens;
-      contents = t.contents;
       isolated = λ mode. subst (IsTokens mode text) tokens (t.isolated mode);
-      reads_in_place = λ mode. subst (λ ps. AreReadInPlace (read_steady_literal mode) ps t.literals t.contents) same (t.reads_in_place mode);
       no_escapes = subst HoldNoEscapes tokens t.no_escapes;
       no_cause = none;
       looked_up = l ∙ (ap (lookup (positional values)) (sym (names-with_marks ts)) ∙ t.looked_up);
+      in_range = t.in_range;
       written = t.written;
-      shapes = t.shapes;
       text_is = exact;
       tokens_of_literals = t.tokens_of_literals;
-      contents_are = t.contents_are;
-      read_back = λ mode. ap (λ ps. contents_between (read_steady_literal mode) ps text) (sym same) ∙ t.read_back mode;
     }
 
 pub is_wide_text : (query : List ℕ) (ts : List Token) (given : Given) (text : List ℕ) → Agree query → IsTokensIn (wide_reading true) query ts →
@@ -199,24 +203,32 @@ wide_given_both query given text none o =
 
 -- ---- by the query with its names in lower case
 
-pub is_wide_both : (query : List ℕ) (ts : List Token) (given : Given) (text : List ℕ) → Agree query → IsTokensIn (wide_reading true) query ts →
-    IsPortable (lower_names ts) → IsTextInBothModes ts given text → IsWideTextInBothModes ts given text
-is_wide_both query ts given text none is p t =
-    let us = lower_names ts in
-    let low = text_of us in
-    let both = λ (mode : Bool). subst (λ (vs : List Token). IsTokens mode (text_of (lower_names vs)) (lower_names vs)) (sym is.2) (lowered_tokens mode query is.0 (own_in_each query is.0 none is.1 mode)) in
-    let n : first_not_alone us ≡ None = first_not_alone-lowered ts 0 [] [] (names_in_reading (wide_reading true) query ts is) (λ h. h) (alone_in ts given text t) in
-    let e : joined_text (pieces us) t.literals ≡ Some text = ap (λ ps. joined_text ps t.literals) (pieces-lowered [] ts) ∙ t.text_is in
-    let lists : length t.literal_tokens ≡ place_count ts = as_many_lists true t.literals t.literal_tokens (t.tokens_of_literals true) ∙ joined_text_count [] ts t.literals text t.text_is in
-    let same : with_literal_tokens us t.literal_tokens ≡ with_literal_tokens ts t.literal_tokens = with_literal_tokens-lowered ts t.literal_tokens lists in
-    record {
-      text_in_both_modes = t;
-      portable = p;
-      portable_text = subst (λ vs. IsPortable vs) same (is_portable low text us t.literals t.literal_tokens both p n t.shapes t.tokens_of_literals e);
-      read = λ server mode vs honest v.
-          subst (λ ws. IsReadAs ws vs) same (read_in_both low text us t.literals t.literal_tokens both p n t.shapes t.tokens_of_literals e server mode vs honest v);
-      tokens = tokens_in_both low text us t.literals t.literal_tokens both p n t.shapes t.tokens_of_literals e;
-    }
+module _ (query : List ℕ) (ts : List Token) (given : Given) (text : List ℕ) (none : Agree query) (is : IsTokensIn (wide_reading true) query ts) where
+  low_both : (mode : Bool) → IsTokens mode (text_of (lower_names ts)) (lower_names ts)
+  low_both mode = subst (λ (vs : List Token). IsTokens mode (text_of (lower_names vs)) (lower_names vs)) (sym is.2) (lowered_tokens mode query is.0 (own_in_each query is.0 none is.1 mode))
+
+  names_are : All IsWideName (names ts)
+  names_are = names_in_reading (wide_reading true) query ts is
+
+  pub is_wide_both : IsPortable (lower_names ts) → IsTextInBothModes ts given text → IsWideTextInBothModes ts given text
+  is_wide_both p t = record {
+    text_in_both_modes = t;
+    portable = p;
+    portable_text = lowered_portable ts given text names_are low_both p t;
+  }
+
+  wide_both_on_servers : (t : IsWideTextInBothModes ts given text) →
+      IsReadInBothModes (text_of (lower_names ts)) ts (λ us. with_literal_tokens us t.text_in_both_modes.literal_tokens) text
+  wide_both_on_servers t = lowered_on_servers ts given text names_are low_both t.portable t.text_in_both_modes
+
+pub wide_read_in_both : (mode : Bool) (query text : List ℕ) (ts : List Token) (given : Given) → IsTokensIn (wide_reading mode) query ts →
+    (t : IsWideTextInBothModes ts given text) →
+    IsReadInBothModes (text_of (lower_names ts)) ts (λ us. with_literal_tokens us t.text_in_both_modes.literal_tokens) text
+wide_read_in_both mode query text ts given is t =
+    let none : HoldNoEscapes ts = no_escapes_out ts t.text_in_both_modes.literal_tokens t.text_in_both_modes.no_escapes in
+    let own : HoldNoEscapes is.0 = no_escapes_back false is.0 (subst HoldNoEscapes is.2 none) in
+    let in_true : IsTokens true query is.0 = tokens_other mode true query is.0 own is.1 in
+    wide_both_on_servers query ts given text (is.0, in_true, own) (is.0, in_true, is.2) t
 
 -- ---- as the calls promise it
 

@@ -20,14 +20,12 @@ use Rattle.mysql_named_params.proofs.ReadingLemmas.{reading_exists, reading_text
 use Rattle.mysql_named_params.proofs.ReparsedLemmas.{marked_reading, names_in_reading, names-with_marks}
 use Rattle.mysql_portable.specs.FirstUnportable.{first_unportable}
 use Rattle.mysql_portable.specs.Portable.{IsPortable, IsReadAs}
-use Rattle.mysql_portable.specs.Server.{IsReadOn}
 use Rattle.mysql_portable.specs.Steady.{first_unsteady, is_steady, IsSteady}
 use Rattle.mysql_portable.specs.declared.portable.Unportable.{Unportable}
 use Rattle.mysql_portable.proofs.OtherModeLemmas.{all_parts}
-use Rattle.mysql_portable.proofs.SteadyLemmas.{steady_other, steady_seen}
+use Rattle.mysql_portable.proofs.SteadyLemmas.{steady_other}
 use Rattle.mysql_params_core.specs.Given.{Given, positional}
 use Rattle.mysql_params_core.specs.Lookup.{lookup}
-use Rattle.mysql_binding.specs.Contents.{AreReadInPlace, contents_between}
 use Rattle.mysql_binding.specs.FirstCause.{first_cause}
 use Rattle.mysql_binding.specs.Pieces.{pieces, pieces_from, joined_text}
 use Rattle.mysql_binding.specs.Replaced.{with_literal_tokens}
@@ -41,8 +39,9 @@ use Rattle.mysql_binding.proofs.CauseLemmas.{on_both, on_map, no_cause_parts, no
 use Rattle.mysql_binding.proofs.PieceLemmas.{joined_text_count}
 use Rattle.mysql_binding.proofs.SpliceLemmas.{as_many_lists}
 use Rattle.mysql_steady_text.specs.SteadyLiteral.{steady_literal_of}
-use Rattle.mysql_steady_text.specs.SteadyLiterals.{IsSteadyFor}
-use Rattle.mysql_steady_text.specs.SteadyReader.{read_steady_literal}
+use Rattle.mysql_steady_text.specs.BothModesText.{IsTextInBothModes}
+use Rattle.mysql_steady_text.specs.OnServers.{IsReadAnywhere, IsReadInBothModes}
+use Rattle.mysql_steady_text.specs.SteadyLiterals.{AreSteadyLiterals, IsSteadyFor}
 use Rattle.mysql_steady_text.specs.SteadyText.{IsSteadyText}
 use Rattle.mysql_steady_text.specs.SteadyAgain.{IsSteadyBoundAgain, IsSteadyByPosition}
 use Rattle.mysql_steady_text.specs.SteadyTextErrors.{IsBindRefusal, IsSteadyRefusal}
@@ -51,9 +50,9 @@ use Rattle.mysql_steady_text.specs.declared.steady_text_error.SteadyTextError.{S
 use Rattle.mysql_steady_text.specs.declared.steady_text_error.SteadyTextError.TheVariants.{Unsteady, Bind}
 use Rattle.mysql_steady_text.specs.declared.steady_text_error.SteadyTextError.TheVariants as error
 use Rattle.mysql_steady_text.proofs.SteadyAgainLemmas.{again_of, positioned_of}
-use Rattle.mysql_steady_text.proofs.BothModesTextLemmas.{alone_in, is_portable, read_in_both, tokens_in_both}
+use Rattle.mysql_steady_text.proofs.BothModesTextLemmas.{alone_in, is_portable, read_in_both, shapes_of, tokens_in_both}
 use Rattle.mysql_steady_text.proofs.SteadySpliceLemmas.{all_both}
-use Rattle.mysql_steady_text.proofs.SteadyTextLemmas.{both_of, is_steady_text}
+use Rattle.mysql_steady_text.proofs.SteadyTextLemmas.{both_of, is_steady_text, seen_on_servers}
 
 -- ---- by the query with marks
 
@@ -87,18 +86,14 @@ from_marks ts given values text l none t =
       values = t.values;
       literals = t.literals;
       literal_tokens = t.literal_tokens;
-      contents = t.contents;
       isolated = λ mode. subst (IsTokens mode text) (with_literal_tokens-with_marks ts t.literal_tokens lists) (t.isolated mode);
-      reads_in_place = λ mode. subst (λ ps. AreReadInPlace (read_steady_literal mode) ps t.literals t.contents) same (t.reads_in_place mode);
       steady = t.steady;
       no_cause = none;
       looked_up = l ∙ (ap (lookup (positional values)) (sym (names-with_marks ts)) ∙ t.looked_up);
+      in_range = t.in_range;
       written = t.written;
-      shapes = t.shapes;
       text_is = exact;
       tokens_of_literals = t.tokens_of_literals;
-      contents_are = t.contents_are;
-      read_back = λ mode. ap (λ ps. contents_between (read_steady_literal mode) ps text) (sym same) ∙ t.read_back mode;
     }
 
 marked_steady : (ts : List Token) → list_all is_steady (text_of ts) ≡ true → list_all is_steady (text_of (with_marks ts)) ≡ true
@@ -207,32 +202,53 @@ lowered_steady (t ∷ ts) h =
     let p = all_parts is_steady (bytes_of t) (text_of ts) h in
     all_both (bytes_of t) (text_of (lower_names ts)) p.0 (lowered_steady ts p.1)
 
-pub is_wide_anywhere_text : (query : List ℕ) (ts : List Token) (given : Given) (text : List ℕ) → IsTokensIn (wide_reading true) query ts →
-    IsSteady query → IsPortable (lower_names ts) → IsSteadyText ts given text → IsWideAnywhereText ts given text
-is_wide_anywhere_text query ts given text is steady p t =
-    let us = lower_names ts in
-    let low = text_of us in
-    let own : list_all is_steady (text_of ts) ≡ true = subst (λ (x : List ℕ). list_all is_steady x ≡ true) (sym (reading_text (wide_reading true) query ts is)) steady in
-    let low_steady : IsSteady low = lowered_steady ts own in
-    let tokens : IsTokens true low us = subst (λ (vs : List Token). IsTokens true (text_of (lower_names vs)) (lower_names vs)) (sym is.2) (lowered_tokens true query is.0 is.1) in
-    let both = λ (mode : Bool). steady_other true mode low us low_steady tokens in
-    let n : first_not_alone us ≡ None = first_not_alone-lowered ts 0 [] [] (names_in_reading (wide_reading true) query ts is) (λ h. h) (alone_in ts given text (both_of ts given text t)) in
-    let e : joined_text (pieces us) t.literals ≡ Some text = ap (λ ps. joined_text ps t.literals) (pieces-lowered [] ts) ∙ t.text_is in
-    let lists : length t.literal_tokens ≡ place_count ts = as_many_lists true t.literals t.literal_tokens (t.tokens_of_literals true) ∙ joined_text_count [] ts t.literals text t.text_is in
-    let same : with_literal_tokens us t.literal_tokens ≡ with_literal_tokens ts t.literal_tokens = with_literal_tokens-lowered ts t.literal_tokens lists in
-    record {
-      steady_text = t;
-      portable = p;
-      portable_text = subst (λ vs. IsPortable vs) same (is_portable low text us t.literals t.literal_tokens both p n t.shapes t.tokens_of_literals e);
-      read = λ server mode set vs honest v.
-          subst (λ ws. IsReadAs ws vs) same (read_in_both low text us t.literals t.literal_tokens both p n t.shapes t.tokens_of_literals e
-          server mode vs honest (subst (λ x. IsReadOn server mode x vs) (steady_seen set text t.steady) v));
-      tokens = λ server mode set vs honest within u.
-          subst (λ x. IsReadOn server mode x (with_literal_tokens vs t.literal_tokens)) (sym (steady_seen set text t.steady)) (
-          tokens_in_both low text us t.literals t.literal_tokens both p n t.shapes t.tokens_of_literals e
-          server mode vs honest within (subst (λ x. IsReadOn server mode x vs) (steady_seen set low low_steady) u)
-          );
-    }
+module _ (ts : List Token) (given : Given) (text : List ℕ) (names_are : All IsWideName (names ts)) (both : (mode : Bool) → IsTokens mode (text_of (lower_names ts)) (lower_names ts)) (p : IsPortable (lower_names ts)) (t : IsTextInBothModes ts given text) where
+  alone : first_not_alone (lower_names ts) ≡ None
+  alone = first_not_alone-lowered ts 0 [] [] names_are (λ h. h) (alone_in ts given text t)
+
+  exact : joined_text (pieces (lower_names ts)) t.literals ≡ Some text
+  exact = ap (λ ps. joined_text ps t.literals) (pieces-lowered [] ts) ∙ t.text_is
+
+  same : with_literal_tokens (lower_names ts) t.literal_tokens ≡ with_literal_tokens ts t.literal_tokens
+  same = with_literal_tokens-lowered ts t.literal_tokens (as_many_lists true t.literals t.literal_tokens (t.tokens_of_literals true) ∙ joined_text_count [] ts t.literals text t.text_is)
+
+  shapes : AreSteadyLiterals t.literals
+  shapes = shapes_of t.values t.literals t.in_range t.written
+
+  pub lowered_portable : IsPortable (with_literal_tokens ts t.literal_tokens)
+  lowered_portable = subst (λ vs. IsPortable vs) same (is_portable (text_of (lower_names ts)) text (lower_names ts) t.literals t.literal_tokens both p alone shapes t.tokens_of_literals exact)
+
+  pub lowered_on_servers : IsReadInBothModes (text_of (lower_names ts)) ts (λ vs. with_literal_tokens vs t.literal_tokens) text
+  lowered_on_servers = record {
+    read = λ server mode vs honest v.
+        subst (λ ws. IsReadAs ws vs) same (read_in_both (text_of (lower_names ts)) text (lower_names ts) t.literals t.literal_tokens both p alone shapes t.tokens_of_literals exact server mode vs honest v);
+    tokens = tokens_in_both (text_of (lower_names ts)) text (lower_names ts) t.literals t.literal_tokens both p alone shapes t.tokens_of_literals exact;
+  }
+
+module _ (query : List ℕ) (ts : List Token) (given : Given) (text : List ℕ) (is : IsTokensIn (wide_reading true) query ts) (steady : IsSteady query) where
+  low_steady : IsSteady (text_of (lower_names ts))
+  low_steady = lowered_steady ts (subst (λ (x : List ℕ). list_all is_steady x ≡ true) (sym (reading_text (wide_reading true) query ts is)) steady)
+
+  low_both : (mode : Bool) → IsTokens mode (text_of (lower_names ts)) (lower_names ts)
+  low_both mode =
+      steady_other true mode (text_of (lower_names ts)) (lower_names ts) low_steady
+      (subst (λ (vs : List Token). IsTokens true (text_of (lower_names vs)) (lower_names vs)) (sym is.2) (lowered_tokens true query is.0 is.1))
+
+  names_are : All IsWideName (names ts)
+  names_are = names_in_reading (wide_reading true) query ts is
+
+  pub is_wide_anywhere_text : IsPortable (lower_names ts) → IsSteadyText ts given text → IsWideAnywhereText ts given text
+  is_wide_anywhere_text p t = record {
+    steady_text = t;
+    portable = p;
+    portable_text = lowered_portable ts given text names_are low_both p (both_of ts given text t);
+  }
+
+  pub wide_anywhere_on_servers : (t : IsWideAnywhereText ts given text) →
+      IsReadAnywhere (text_of (lower_names ts)) ts (λ us. with_literal_tokens us t.steady_text.literal_tokens) text
+  wide_anywhere_on_servers t =
+      seen_on_servers (text_of (lower_names ts)) ts (λ us. with_literal_tokens us t.steady_text.literal_tokens) text low_steady t.steady_text.steady
+      (lowered_on_servers ts given text names_are low_both t.portable (both_of ts given text t.steady_text))
 
 -- ---- as the calls promise it
 

@@ -1,5 +1,7 @@
 pub mod SteadyLiterals
 pub mod SteadyText
+pub mod SteadyContents
+pub mod OnServers
 pub mod SteadyAgain
 pub mod SteadyTextErrors
 pub mod FirstBackslash

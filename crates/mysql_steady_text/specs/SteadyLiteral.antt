@@ -2,7 +2,7 @@
 -- text is written after the introducer `_utf8mb4`, so its bytes are utf8mb4 over any connection's
 -- set (MySQL Reference Manual, "Character Set Introducers"). It is in quotes if it is printable
 -- ASCII without a backslash, else in hexadecimal digits.
-use Rattle.std.specs.Prelude.{ℕ, nat_le, Bool, ◌&&◌, List, ◌++◌, codes, Option, Some, if◌then◌else◌, unwrap_or, []}
+use Rattle.std.specs.Prelude.{◌≡◌, ℕ, nat_le, Bool, ◌&&◌, List, ◌++◌, codes, map, Option, Some, if◌then◌else◌, unwrap_or, []}
 use Rattle.std.specs.List.{list_all}
 use Rattle.std.specs.Str.{is_utf8}
 use Rattle.mysql_sql_text.specs.StringUnits.{without_backslashes}
@@ -30,6 +30,10 @@ steady_bytes_literal bytes =
 abbrev pub steady_literal_of : Value → Option (List ℕ)
 steady_literal_of (Bytes bytes) = Some (steady_bytes_literal bytes)
 steady_literal_of value = literal_of without_backslashes value
+
+-- the texts are the steady literals of the values
+abbrev pub AreSteadyLiteralsOf : List Value → List (List ℕ) → Type 0
+AreSteadyLiteralsOf values texts = map steady_literal_of values ≡ map Some texts
 
 -- the bytes of that literal; no bytes for a float, which has none
 abbrev pub steady_literal_text : Value → List ℕ

@@ -1,10 +1,8 @@
--- Steady literals: the shape of every one, and texts that are the steady literals of values.
-use Rattle.std.specs.Prelude.{ℕ, List, ◌++◌, codes, ◌≡◌, [], ◌∷◌, map, Some, ⊤}
+-- The shape of every steady literal.
+use Rattle.std.specs.Prelude.{ℕ, List, ◌++◌, codes, [], ◌∷◌, ⊤}
 use Rattle.mysql_sql_text.specs.StringUnits.{without_backslashes}
 use Rattle.mysql_sql_text.specs.LiteralShape.{AreHexadecimalPairs, IsLiteral, IsQuoted}
-use Rattle.mysql_values.specs.declared.value.Value.{Value}
 use Rattle.mysql_portable.specs.SteadyBytes.{IsSteady}
-use Rattle.mysql_steady_text.specs.SteadyLiteral.{steady_literal_of}
 
 -- A literal of the mode without backslash escapes; or `_utf8mb4` and a literal in quotes of that
 -- mode, or `_utf8mb4 0x` and hexadecimal digits.
@@ -20,7 +18,3 @@ pub data IsSteadyLiteral : List ℕ → Type 0 where
 abbrev pub AreSteadyLiterals : List (List ℕ) → Type 0
 AreSteadyLiterals [] = ⊤
 AreSteadyLiterals (text ∷ texts) = IsSteadyLiteral text × IsSteady text × AreSteadyLiterals texts
-
--- the texts are the steady literals of the values
-abbrev pub AreSteadyLiteralsOf : List Value → List (List ℕ) → Type 0
-AreSteadyLiteralsOf values texts = map steady_literal_of values ≡ map Some texts

@@ -50,7 +50,7 @@ pub fn bind_text_in_both_modes(
     params: Params,
 ) -> Result<Vec<u8>, BothModesError>
     ensures bound { (mode : Bool) → OnTokens mode query.now (λ ts. IfOk result (λ text.
-        IsPortableInBothModes query.now ts (given params) text.items)) }
+        IsPortableInBothModes ts (given params) text.items)) }
     ensures refused { (mode : Bool) → OnTokens mode query.now (λ ts. IfErr result
         (IsBothModesRefusal (first_backslash ts) (first_unportable ts)
         (first_cause ts (given params)))) }
@@ -78,7 +78,7 @@ pub(crate) fn bind_borrowed_in_both_modes(
     params: BorrowedParams<'_, '_>,
 ) -> Result<Vec<u8>, BothModesError>
     ensures bound { (mode : Bool) → OnTokens mode query.now (λ ts. IfOk result (λ text.
-        IsPortableInBothModes query.now ts (given_by_borrowed params.entry) text.items)) }
+        IsPortableInBothModes ts (given_by_borrowed params.entry) text.items)) }
     ensures refused { (mode : Bool) → OnTokens mode query.now (λ ts. IfErr result
         (IsBothModesRefusal (first_backslash ts) (first_unportable ts)
         (first_cause ts (given_by_borrowed params.entry)))) }

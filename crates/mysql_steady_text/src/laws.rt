@@ -24,6 +24,7 @@ ghost use Rattle.mysql_steady_text.specs.SteadyPairs.{AreEqualBothModesPairsErro
 ghost use Rattle.mysql_steady_text.specs.SteadyText.{IsSteadyText};
 ghost use Rattle.mysql_steady_text.specs.SteadyTextErrors.{AreEqualSteadyTextErrors};
 
+mod anywhere;
 mod guarded;
 mod literals;
 
@@ -31,6 +32,9 @@ use crate::both_modes_error::BothModesError;
 use crate::both_modes_pairs_error::BothModesPairsError;
 use crate::steady_pairs_error::SteadyPairsError;
 use crate::steady_text_error::SteadyTextError;
+pub use anywhere::{
+    anywhere_texts_on_servers, contents_of_steady_texts, texts_in_both_modes_on_servers,
+};
 pub use guarded::{
     borrowed_guarded_literals, bound_guarded_texts, bound_guarded_texts_on_servers, client_sets,
     guarded_isolation, guarded_literals, guarded_texts_on_servers, guarded_texts_over_sets,

@@ -42,7 +42,7 @@ pub fn bind_pairs_anywhere(
     pairs: &[(&[u8], ValueRef<'_>)],
 ) -> Result<Vec<u8>, SteadyPairsError>
     ensures bound { IfOk result (λ text. OfPairs pairs.now (λ given. (mode : Bool) →
-        OnTokens mode query.now (λ ts. IsAnywhereText query.now ts given text.items))) }
+        OnTokens mode query.now (λ ts. IsAnywhereText ts given text.items))) }
     ensures refused { IfErr result
         (IsSteadyPairsRefusal query.now first_unportable pairs.now) }
     ensures bound_again { IfOk result (λ text. IsSteadyBoundAgain text.items) }
@@ -79,7 +79,7 @@ pub fn bind_values_anywhere(
     values: &[ValueRef<'_>],
 ) -> Result<Vec<u8>, SteadyTextError>
     ensures bound { (mode : Bool) → OnTokens mode query.now (λ ts. IfOk result (λ text.
-        IsAnywhereText query.now ts (positional (owned_values values.now)) text.items)) }
+        IsAnywhereText ts (positional (owned_values values.now)) text.items)) }
     ensures refused { (mode : Bool) → OnTokens mode query.now (λ ts. IfErr result
         (IsSteadyRefusal query.now (first_unportable ts)
         (first_cause ts (positional (owned_values values.now))))) }
@@ -169,7 +169,7 @@ pub fn bind_pairs_in_both_modes(
     pairs: &[(&[u8], ValueRef<'_>)],
 ) -> Result<Vec<u8>, BothModesPairsError>
     ensures bound { IfOk result (λ text. OfPairs pairs.now (λ given. (mode : Bool) →
-        OnTokens mode query.now (λ ts. IsPortableInBothModes query.now ts given text.items))) }
+        OnTokens mode query.now (λ ts. IsPortableInBothModes ts given text.items))) }
     ensures refused { IfErr result (IsBothModesPairsRefusal query.now pairs.now) }
     ensures bound_again { IfOk result (λ text. IsBoundAgainInBothModes text.items) }
     ensures by_position { IfOk result (λ text. OfPairs pairs.now (λ given. (mode : Bool) →
@@ -205,7 +205,7 @@ pub fn bind_values_in_both_modes(
     values: &[ValueRef<'_>],
 ) -> Result<Vec<u8>, BothModesError>
     ensures bound { (mode : Bool) → OnTokens mode query.now (λ ts. IfOk result (λ text.
-        IsPortableInBothModes query.now ts (positional (owned_values values.now)) text.items)) }
+        IsPortableInBothModes ts (positional (owned_values values.now)) text.items)) }
     ensures refused { (mode : Bool) → OnTokens mode query.now (λ ts. IfErr result
         (IsBothModesRefusal (first_backslash ts) (first_unportable ts)
         (first_cause ts (positional (owned_values values.now))))) }

@@ -14,6 +14,7 @@ ghost use Rattle.mysql_steady_text.specs.SteadyLiterals.{IsSteadyFor};
 use crate::laws::{borrowed_steady_literals, steady_literals};
 use mysql_binding::LiteralForm;
 use mysql_sql_text::strings::{fill_hexadecimal, fill_string, string_len};
+use mysql_values::laws::{borrowed_fields_in_range, fields_in_range};
 use mysql_values::value::{Value, ValueRef};
 
 // The introducer before a string or hexadecimal digits.
@@ -182,6 +183,7 @@ impl LiteralForm for SteadyForm {
     }
 
     fn put(&self, value: ValueRef<'_>, room: &mut [u8]) {
+        borrowed_fields_in_range(value);
         borrowed_steady_literals(value);
         put_borrowed_steady(value, room);
     }
@@ -191,6 +193,7 @@ impl LiteralForm for SteadyForm {
     }
 
     fn put_value(&self, value: &Value, room: &mut [u8]) {
+        fields_in_range(value);
         steady_literals(value);
         put_steady(value, room);
     }

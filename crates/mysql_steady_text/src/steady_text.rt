@@ -54,7 +54,7 @@ pub fn bind_text_anywhere(
     params: Params,
 ) -> Result<Vec<u8>, SteadyTextError>
     ensures bound { (mode : Bool) → OnTokens mode query.now (λ ts. IfOk result (λ text.
-        IsAnywhereText query.now ts (given params) text.items)) }
+        IsAnywhereText ts (given params) text.items)) }
     ensures refused { (mode : Bool) → OnTokens mode query.now (λ ts. IfErr result
         (IsSteadyRefusal query.now (first_unportable ts) (first_cause ts (given params)))) }
     ensures bound_again { IfOk result (λ text. IsSteadyBoundAgain text.items) }
@@ -106,7 +106,7 @@ pub(crate) fn bind_borrowed_anywhere(
     params: BorrowedParams<'_, '_>,
 ) -> Result<Vec<u8>, SteadyTextError>
     ensures bound { (mode : Bool) → OnTokens mode query.now (λ ts. IfOk result (λ text.
-        IsAnywhereText query.now ts (given_by_borrowed params.entry) text.items)) }
+        IsAnywhereText ts (given_by_borrowed params.entry) text.items)) }
     ensures refused { (mode : Bool) → OnTokens mode query.now (λ ts. IfErr result
         (IsSteadyRefusal query.now (first_unportable ts)
         (first_cause ts (given_by_borrowed params.entry)))) }

@@ -9,6 +9,7 @@ use Rattle.mysql_binding.specs.Replaced.{with_literal_tokens}
 use Rattle.mysql_binding.proofs.BoundSentLemmas.{written_in_line}
 use Rattle.mysql_steady_text.specs.SteadyLiteral.{steady_literal_of}
 use Rattle.mysql_steady_text.proofs.SteadyClientLemmas.{bound_alone}
+use Rattle.mysql_steady_text.proofs.SteadyTextLemmas.{shapes_in}
 use Rattle.mysql_steady_text.proofs.SteadyLiteralLemmas.{steady_in_line}
 use Rattle.mysql_bind_core.specs.Bound.{IsAssignedText, IsTextPortableIfWanted, IsTaken, IsTextFor, of_fragments, of_values}
 use Rattle.mysql_bind_core.specs.Contents.{has_fragment}
@@ -34,7 +35,7 @@ returns c = sent
           b.isolated false,
           subst IsPortableInClient (low_replaced false ts b.literals b.literal_tokens text (b.tokens_of_literals false) b.text_is)
               (c.steady_texts_are_sent.ensures.portable false (text_of (lower_names ts)) text (lower_names ts) b.literals b.literal_tokens
-              (low_tokens false query ts is) p.portable.alike p.no_opener p.sent (low_alone false query ts is (bound_alone ts given text b)) b.shapes
+              (low_tokens false query ts is) p.portable.alike p.no_opener p.sent (low_alone false query ts is (bound_alone ts given text b)) (shapes_in b)
               (written_in_line steady_literal_of steady_in_line b.values b.literals b.written) (b.tokens_of_literals false)
               (low_joined ts b.literals text b.text_is)),
         )

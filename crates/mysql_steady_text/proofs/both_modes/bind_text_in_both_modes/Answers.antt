@@ -11,7 +11,7 @@ use Rattle.mysql_steady_text.proofs.both_modes.bind_text_in_both_modes.Goals as 
 
 pub returns-clause-bound : goal.returns-clause-bound
 returns-clause-bound c =
-    subst (λ (g : Given). (mode : Bool) → OnTokens mode c.args.query.now (λ ts. IfOk c.bind_borrowed_in_both_modes.result (λ text. IsPortableInBothModes c.args.query.now ts g text.items)))
+    subst (λ (g : Given). (mode : Bool) → OnTokens mode c.args.query.now (λ ts. IfOk c.bind_borrowed_in_both_modes.result (λ text. IsPortableInBothModes ts g text.items)))
     c.borrowed.ensures c.bind_borrowed_in_both_modes.ensures.bound
 
 pub returns-clause-refused : goal.returns-clause-refused

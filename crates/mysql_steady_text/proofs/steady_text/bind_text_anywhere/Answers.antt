@@ -11,7 +11,7 @@ use Rattle.mysql_steady_text.proofs.steady_text.bind_text_anywhere.Goals as goal
 
 pub returns-clause-bound : goal.returns-clause-bound
 returns-clause-bound c =
-    subst (λ (g : Given). (mode : Bool) → OnTokens mode c.args.query.now (λ ts. IfOk c.bind_borrowed_anywhere.result (λ text. IsAnywhereText c.args.query.now ts g text.items)))
+    subst (λ (g : Given). (mode : Bool) → OnTokens mode c.args.query.now (λ ts. IfOk c.bind_borrowed_anywhere.result (λ text. IsAnywhereText ts g text.items)))
     c.borrowed.ensures c.bind_borrowed_anywhere.ensures.bound
 
 pub returns-clause-refused : goal.returns-clause-refused
