@@ -28,10 +28,10 @@ pub const CLIENT_CONSTRUCTS: [&str; 9] = [
 
 /// The words that MariaDB's client takes for commands at the front of a statement, and then those
 /// that MySQL's alone does.
-const CLIENT_WORDS: [&[u8]; 27] = [
+const CLIENT_WORDS: [&[u8]; 28] = [
     b"charset", b"clear", b"connect", b"costs", b"edit", b"ego", b"exit", b"go", b"help",
     b"nopager", b"notee", b"nowarning", b"pager", b"print", b"prompt", b"quit", b"rehash",
-    b"sandbox", b"source", b"status", b"system", b"tee", b"use", b"warnings",
+    b"sandbox", b"source", b"status", b"system", b"tee", b"use", b"warnings", b"?",
     b"query_attributes", b"resetconnection", b"ssl_session_data_print",
 ];
 
@@ -89,12 +89,12 @@ impl Front {
         match kind {
             Kind::Quoted => of_quoted(token),
             Kind::Comment => of_comment(token, after),
-            Kind::Place => None,
+            Kind::Place => self.of_front(text),
             Kind::Plain => self.of_front(text).or_else(|| of_plain(token[0], after)),
         }
     }
 
-    /// What is found of a plain byte since it stands at a front.
+    /// What is found of a plain byte or a mark since it stands at a front.
     fn of_front(&self, text: &[u8]) -> Option<i32> {
         if self.statement && text[0] == b'-' && leads_dash(&text[1..]) {
             Some(DASH_IN_FRONT)
@@ -125,7 +125,7 @@ impl Front {
 /// What is found in a string or a quoted identifier.
 fn of_quoted(token: &[u8]) -> Option<i32> {
     let has = |part: &[u8]| token.windows(part.len()).any(|bytes| bytes == part);
-    if has(b"\\\n") || has(b"\\\r\n") {
+    if has(b"\\\n") || has(b"\\\r\n") || token.ends_with(b"\\") {
         Some(ESCAPED_NEWLINE)
     } else if has_delimiter_line(token) {
         Some(DELIMITER)

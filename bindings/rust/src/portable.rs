@@ -40,7 +40,7 @@ pub enum Construct {
     Delimiter,
     /// A statement that begins with a word of a client, as `use`, `source` or `system`.
     ClientWord,
-    /// A backslash at the end of a line, in quotes or backquotes.
+    /// A backslash at the end of a line or of the text, in quotes or backquotes.
     EscapedNewline,
     /// A byte 0.
     ZeroByte,

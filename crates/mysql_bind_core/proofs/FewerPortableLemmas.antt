@@ -30,7 +30,7 @@ use Rattle.mysql_fragments.specs.GivenFragments.{FragmentMap, GivenFragments, fr
 use Rattle.mysql_fragments.specs.declared.fragment.Item.{Item}
 use Rattle.mysql_fragments.specs.declared.fragment.Fragment.{Fragment}
 use Rattle.mysql_fragments.specs.declared.fragment.Fragment.TheVariants as one
-use Rattle.mysql_fragments.proofs.ExpandedLemmas.{expanded_alone, expanded_nameless, expanded_parts}
+use Rattle.mysql_fragments.proofs.ExpandedLemmas.{expanded_alone, expanded_nameless, expanded_parts, expanded_shapes}
 use Rattle.mysql_fragments.proofs.SplicedFragmentLemmas.{fragments_portable}
 use Rattle.mysql_bind_core.specs.Contents.{item_said}
 use Rattle.mysql_bind_core.specs.Entries.{IsFragmentsFor}
@@ -179,7 +179,7 @@ pub expanded_alike : (mode : Bool) (query expanded : List ℕ) (ts : List Token)
 expanded_alike mode query expanded ts given is p x =
     subst (λ us. AreReadAlike us) (low_replaced mode ts (map fragment_text x.fragments) x.lists expanded x.tokens_of_fragments x.text_is)
     (fragments_portable mode expanded (lower_names ts) (map mark_number x.fragments) (map fragment_text x.fragments) x.lists
-    (low_alone mode query ts is (expanded_alone true mode ts given expanded x)) x.shapes x.tokens_of_fragments
+    (low_alone mode query ts is (expanded_alone true mode ts given expanded x)) (expanded_shapes x) x.tokens_of_fragments
     (low_joined ts (map fragment_text x.fragments) expanded x.text_is) (text_of (lower_names ts)) (low_tokens mode query ts is) p.portable.alike)
 
 plain_portable : (mode : Bool) (query text : List ℕ) (ts : List Token) (given : GivenFragments) → IsTokensIn (wide_reading mode) query ts →

@@ -1,7 +1,7 @@
 -- A text that is bound to a query by wide names: what a client makes of it, by the query with these names in
 -- lower case, whose tokens are of the grammar and whose places have the same literals.
 use Rattle.std.specs.Prelude.{Bool}
-use Rattle.std.proofs.Common.{◌≡◌, ◌∙◌, ℕ, List, [], None, Some, ap, length, subst, sym}
+use Rattle.std.proofs.Common.{◌≡◌, ◌∙◌, ℕ, true, List, [], None, Some, ap, length, subst, sym}
 use Rattle.mysql_sql_text.specs.InLine.{AreInLine}
 use Rattle.mysql_named_params.specs.LoweredNames.{lower_names}
 use Rattle.mysql_named_params.specs.Reading.{IsTokensIn, wide_reading}
@@ -24,6 +24,7 @@ use Rattle.mysql_binding.proofs.BoundOnServerLemmas.{bound_portable, bound_read,
 use Rattle.mysql_binding.proofs.BoundSentLemmas.{bound_alone, literals_sent}
 use Rattle.mysql_binding.proofs.BoundStatementLemmas.{StayWithin, literals_within, replaced_no_opener}
 use Rattle.mysql_binding.proofs.ReplacedLemmas.{isolated_places}
+use Rattle.mysql_binding.proofs.SentTextLemmas.{except_marks}
 use Rattle.mysql_binding.proofs.SpliceLemmas.{Each}
 use Rattle.mysql_binding.proofs.SplicedInClientLemmas.{spliced_by_client, spliced_count, spliced_on_reader}
 use Rattle.mysql_steady_text.proofs.WideSteadyLemmas.{first_not_alone-lowered, pieces-lowered, with_literal_tokens-lowered}
@@ -97,5 +98,5 @@ module _ (mode : Bool) (query text : List ℕ) (ts : List Token) (given : Given)
         };
         no_opener = replaced_no_opener (lower_names ts) b.literal_tokens inside p.no_opener;
         sent = literals_sent mode (text_of (lower_names ts)) text (lower_names ts) b.literals b.literal_tokens h
-            (low_alone mode query ts is (bound_alone mode ts given text b)) b.shapes in_line b.tokens_of_literals exact p.sent;
+            (low_alone mode query ts is (bound_alone mode ts given text b)) b.shapes in_line b.tokens_of_literals exact (except_marks (lower_names ts) true true p.sent);
       })

@@ -9,7 +9,7 @@ use Rattle.std.proofs.lemmas.Bool.Decides.{nat_tests}
 use Rattle.mysql_sql_text.specs.LiteralShape.{AreDigits, IsClosedString, closed_string, AreClosedStrings, one_string, more_strings, IsQuoted, IsLiteral, null_literal, natural_literal, negative_literal, hexadecimal_literal, quoted_literal}
 use Rattle.mysql_named_params.specs.Bytes.{asterisk, carriage_return, colon, dash, newline, question_mark, single_quote, slash, begins}
 use Rattle.mysql_named_params.specs.Tokens.{closed_string as closed_tail}
-use Rattle.mysql_named_params.specs.Tokens.{Token, IsTokens, text_of, text_then, AreTokensBefore, QuotedString, Plain}
+use Rattle.mysql_named_params.specs.Tokens.{Token, IsTokens, text_of, text_then, AreTokensBefore, QuotedString, Mark, Plain}
 use Rattle.mysql_named_params.proofs.TokenListLemmas.{one_token_list}
 use Rattle.mysql_named_params.proofs.TokenRowLemmas.{text_then-append, text_then-text_of, text_of-append, AreTokensBefore-append}
 use Rattle.mysql_portable.specs.FoundInClient.{begins_statement, begins_line, begins_no_word, letter_of, is_client_word, drops_line, stand_before_comment, ends_line, escapes_newline, begins_delimiter_line, found_in_quotes, found_word, found_in_client}
@@ -17,7 +17,7 @@ use Rattle.mysql_portable.proofs.OtherModeLemmas.{all_parts}
 use Rattle.mysql_sql_text.specs.InLine.{is_in_line}
 use Rattle.mysql_binding.proofs.LiteralTokenLemmas.{is_alphanumeric, other, plain_tokens, plain_text, plain_before, minus_plain, AreDigits-alphanumeric, AreHexadecimalPairs-alphanumeric}
 use Rattle.mysql_portable.proofs.ClientWordLemmas.{is_word_letter}
-use Rattle.mysql_binding.proofs.SentTextLemmas.{is_sent_first, begins_as_sent, no_word_found, AreSentBefore, statement_after, line_after, IsSentAt}
+use Rattle.mysql_binding.proofs.SentTextLemmas.{is_sent_first, begins_as_sent, no_word_found, AreSentBefore, AreSentExceptMarksBefore, statement_after, line_after, IsSentAt}
 use Rattle.mysql_binding.proofs.SpliceLemmas.{HoldsAlone}
 
 pub and_none : (a : Bool) → (a && false) ≡ false
@@ -33,6 +33,14 @@ AreSentBefore-append [] ys rest statement line h k = k
 AreSentBefore-append (x ∷ xs) ys rest statement line h k =
     (rw (text_then-append xs ys rest) h.0, AreSentBefore-append xs ys rest (begins_statement statement x) (begins_line line x) h.1 k)
 
+except_marks-append : (xs ys : List Token) (rest : List ℕ) (statement line : Bool) →
+    AreSentExceptMarksBefore (text_then rest ys) statement line xs →
+    AreSentExceptMarksBefore rest (statement_after statement xs) (line_after line xs) ys → AreSentExceptMarksBefore rest statement line (xs ++ ys)
+except_marks-append [] ys rest statement line h k = k
+except_marks-append (Mark ∷ xs) ys rest statement line h k = except_marks-append xs ys rest false false h k
+except_marks-append (x ∷ xs) ys rest statement line h k =
+    (subst (λ z. found_in_client statement line x z ≡ None) (sym (text_then-append xs ys rest)) h.0, except_marks-append xs ys rest (begins_statement statement x) (begins_line line x) h.1 k)
+
 pub statement_after-append : (xs ys : List Token) (statement : Bool) →
     statement_after statement (xs ++ ys) ≡ statement_after (statement_after statement xs) ys
 statement_after-append [] ys statement = refl
@@ -47,7 +55,7 @@ pub record SentPart (mode : Bool) (text : List ℕ) : Type 0 where
   pub part : List Token
   pub part_text : text_of part ≡ text
   pub part_each : (rest : List ℕ) → AreTokensBefore mode rest part
-  pub part_sent : (rest : List ℕ) → AreSentBefore rest false false part
+  pub part_sent : (rest : List ℕ) → AreSentExceptMarksBefore rest false false part
   pub part_statement : statement_after false part ≡ false
   pub part_line : line_after false part ≡ false
 
@@ -57,7 +65,7 @@ pub record SentText (mode : Bool) (text : List ℕ) : Type 0 where
   pub list_text : text_of list ≡ text
   pub list_each : (rest : List ℕ) → AreTokensBefore mode rest list
   pub list_front : (rest : List ℕ) → begins_as_sent (text ++ rest) ≡ true
-  pub list_sent : (rest : List ℕ) (statement line : Bool) → AreSentBefore rest statement line list
+  pub list_sent : (rest : List ℕ) (statement line : Bool) → AreSentExceptMarksBefore rest statement line list
   pub list_statement : (statement : Bool) → statement_after statement list ≡ false
   pub list_line : (line : Bool) → line_after line list ≡ false
 
@@ -76,9 +84,9 @@ both_parts mode a b x y = record {
   part = x.part ++ y.part;
   part_text = text_of-append x.part y.part ∙ (ap (λ z. z ++ text_of y.part) x.part_text ∙ ap (λ z. a ++ z) y.part_text);
   part_each = λ rest. AreTokensBefore-append mode x.part y.part rest (x.part_each _) (y.part_each rest);
-  part_sent = λ rest. AreSentBefore-append x.part y.part rest false false (x.part_sent _)
-      (subst (λ s. AreSentBefore rest s (line_after false x.part) y.part) (sym x.part_statement)
-      (subst (λ l. AreSentBefore rest false l y.part) (sym x.part_line) (y.part_sent rest)));
+  part_sent = λ rest. except_marks-append x.part y.part rest false false (x.part_sent _)
+      (subst (λ s. AreSentExceptMarksBefore rest s (line_after false x.part) y.part) (sym x.part_statement)
+      (subst (λ l. AreSentExceptMarksBefore rest false l y.part) (sym x.part_line) (y.part_sent rest)));
   part_statement = statement_after-append x.part y.part false ∙ (ap (λ s. statement_after s y.part) x.part_statement ∙ y.part_statement);
   part_line = line_after-append x.part y.part false ∙ (ap (λ l. line_after l y.part) x.part_line ∙ y.part_line);
 }
@@ -89,9 +97,9 @@ front_and_part mode a b x y = record {
   list_text = text_of-append x.list y.part ∙ (ap (λ z. z ++ text_of y.part) x.list_text ∙ ap (λ z. a ++ z) y.part_text);
   list_each = λ rest. AreTokensBefore-append mode x.list y.part rest (x.list_each _) (y.part_each rest);
   list_front = λ rest. ap begins_as_sent (append_assoc a b rest) ∙ x.list_front (b ++ rest);
-  list_sent = λ rest statement line. AreSentBefore-append x.list y.part rest statement line (x.list_sent _ statement line)
-      (subst (λ s. AreSentBefore rest s (line_after line x.list) y.part) (sym (x.list_statement statement))
-      (subst (λ l. AreSentBefore rest false l y.part) (sym (x.list_line line)) (y.part_sent rest)));
+  list_sent = λ rest statement line. except_marks-append x.list y.part rest statement line (x.list_sent _ statement line)
+      (subst (λ s. AreSentExceptMarksBefore rest s (line_after line x.list) y.part) (sym (x.list_statement statement))
+      (subst (λ l. AreSentExceptMarksBefore rest false l y.part) (sym (x.list_line line)) (y.part_sent rest)));
   list_statement = λ statement. statement_after-append x.list y.part statement ∙ (ap (λ s. statement_after s y.part) (x.list_statement statement) ∙ y.part_statement);
   list_line = λ line. line_after-append x.list y.part line ∙ (ap (λ l. line_after l y.part) (x.list_line line) ∙ y.part_line);
 }
@@ -125,7 +133,7 @@ alphanumeric_found : (statement line : Bool) (b : ℕ) (rest : List ℕ) → is_
 alphanumeric_found statement line b rest h w =
     rw (other is_alphanumeric b 0 h refl, other is_alphanumeric b (byte "\\") h refl, other is_alphanumeric b asterisk h refl, other is_alphanumeric b dash h refl) w
 
-run_sent : (bytes rest : List ℕ) → list_all is_alphanumeric bytes ≡ true → AreSentBefore rest false false (plain_tokens bytes)
+run_sent : (bytes rest : List ℕ) → list_all is_alphanumeric bytes ≡ true → AreSentExceptMarksBefore rest false false (plain_tokens bytes)
 run_sent [] rest h = tt
 run_sent (b ∷ bytes) rest h =
     let p = and_parts (is_alphanumeric b) (list_all is_alphanumeric bytes) h in
@@ -239,17 +247,20 @@ no_newline_first : (bytes : List ℕ) → list_all is_in_line bytes ≡ true →
 no_newline_first [] h = refl
 no_newline_first (b ∷ bytes) h = other is_in_line b newline (and_parts (is_in_line b) (list_all is_in_line bytes) h).0 refl
 
-no_line_end : (bytes : List ℕ) → list_all is_in_line bytes ≡ true → ends_line bytes ≡ false
-no_line_end [] h = refl
-no_line_end (b ∷ bytes) h =
+no_line_end : (b : ℕ) (bytes : List ℕ) → list_all is_in_line (b ∷ bytes) ≡ true → ends_line (b ∷ bytes) ≡ false
+no_line_end b bytes h =
     let p = and_parts (is_in_line b) (list_all is_in_line bytes) h in
     or_from (b == newline) _ (other is_in_line b newline p.0 refl) (rw (no_newline_first bytes p.1) (and_none (b == carriage_return)))
 
-no_escaped_line : (bytes : List ℕ) → list_all is_in_line bytes ≡ true → escapes_newline bytes ≡ false
-no_escaped_line [] h = refl
-no_escaped_line (b ∷ bytes) h =
-    let p = and_parts (is_in_line b) (list_all is_in_line bytes) h in
-    or_from (b == byte "\\" && ends_line bytes) _ (rw (no_line_end bytes p.1) (and_none (b == byte "\\"))) (no_escaped_line bytes p.1)
+no_escaped_line : (quote : ℕ) → (quote == byte "\\") ≡ false → (body : List ℕ) → list_all is_in_line (body ++ quote ∷ []) ≡ true →
+    escapes_newline (body ++ quote ∷ []) ≡ false
+no_escaped_line quote n [] h = rw n refl
+no_escaped_line quote n (b ∷ []) h =
+    let p = and_parts (is_in_line b) (list_all is_in_line (quote ∷ [])) h in
+    or_from (b == byte "\\" && ends_line (quote ∷ [])) _ (rw (no_line_end quote [] p.1) (and_none (b == byte "\\"))) (no_escaped_line quote n [] p.1)
+no_escaped_line quote n (b ∷ c ∷ body) h =
+    let p = and_parts (is_in_line b) (list_all is_in_line (c ∷ (body ++ quote ∷ []))) h in
+    or_from (b == byte "\\" && ends_line (c ∷ (body ++ quote ∷ []))) _ (rw (no_line_end c (body ++ quote ∷ []) p.1) (and_none (b == byte "\\"))) (no_escaped_line quote n (c ∷ body) p.1)
 
 no_delimiter_line : (bytes : List ℕ) → list_all is_in_line bytes ≡ true → begins_delimiter_line bytes ≡ false
 no_delimiter_line [] h = refl
@@ -263,8 +274,10 @@ no_zero (b ∷ bytes) h =
     let p = and_parts (is_in_line b) (list_all is_in_line bytes) h in
     rw (other is_in_line b 0 p.0 refl) (no_zero bytes p.1)
 
-pub quotes_found : (tail : List ℕ) → list_all is_in_line tail ≡ true → found_in_quotes tail ≡ None
-quotes_found tail h = rw (no_escaped_line tail h, no_delimiter_line tail h) refl
+-- a text in a line, and the quote that ends it
+pub quotes_found : (body : List ℕ) (quote : ℕ) → (quote == byte "\\") ≡ false → list_all is_in_line (body ++ quote ∷ []) ≡ true →
+    found_in_quotes (body ++ quote ∷ []) ≡ None
+quotes_found body quote n h = rw (no_escaped_line quote n body h, no_delimiter_line (body ++ quote ∷ []) h) refl
 
 quote_sent_first : is_sent_first single_quote ≡ true
 unfolding is_sent_first
@@ -278,7 +291,7 @@ string_text mode (closed_string body u) h =
       list_text = append-nil (single_quote ∷ tail);
       list_each = λ rest. ((refl, closed_tail body u refl), tt);
       list_front = λ rest. sent_front single_quote (tail ++ rest) quote_sent_first;
-      list_sent = λ rest statement line. (rw (no_zero tail h) (quotes_found tail h), tt);
+      list_sent = λ rest statement line. (rw (no_zero tail h) (quotes_found body single_quote refl h), tt);
       list_statement = λ statement. refl;
       list_line = λ line. refl;
     }

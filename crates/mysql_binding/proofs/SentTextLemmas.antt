@@ -8,13 +8,14 @@ use Rattle.std.specs.List.{list_all, list_any}
 use Rattle.std.specs.Str.{byte}
 use Rattle.std.proofs.lemmas.Bool.{and_parts, cases_Bool, eqb-true, false_from_ne_true, or_cases, or_from, or_parts}
 use Rattle.std.proofs.lemmas.Bool.Decides.{nat_tests}
+use Rattle.mysql_named_params.specs.Places.{place_count}
 use Rattle.mysql_named_params.specs.Bytes.{asterisk, backquote, colon, dash, hash, newline, question_mark, single_quote, slash, underscore, is_start_byte, is_white_space, begins}
 use Rattle.mysql_named_params.specs.Tokens.{Token, AreTokensBefore, text_of, text_then, bytes_of, QuotedString, QuotedIdentifier, HashComment, DashComment, BlockComment, Name, Mark, Plain}
 use Rattle.mysql_named_params.proofs.TokenRowLemmas.{text_then-append}
 use Rattle.mysql_portable.specs.Server.{begins_place}
 use Rattle.mysql_portable.specs.Client.{holds_opener}
 use Rattle.mysql_portable.specs.FoundInClient.{begins_statement, begins_line, letter_of, begins_word, ends_word, begins_whole_word, is_client_word, is_joined, closes_before_joined, drops_line, begins_comment_dashes, begins_comment, stand_before_comment, found_in_comment, found_word, found_at_byte, found_in_token, found_in_client}
-use Rattle.mysql_portable.specs.FirstUnportableInClient.{AreSentAsTheyAreFrom}
+use Rattle.mysql_portable.specs.FirstUnportableInClient.{AreSentAsTheyAreFrom, AreSentExceptMarksFrom}
 use Rattle.mysql_portable.specs.declared.portable.Construct.{Construct}
 use Rattle.mysql_portable.proofs.ClientWordLemmas.{client_word_same, is_word_letter}
 use Rattle.mysql_binding.specs.Replaced.{with_literal_tokens}
@@ -313,7 +314,7 @@ no_letter letter k f t = false_from_ne_true _ (λ e. true≢false (sym t ∙ (ap
 pub no_client_word : (letter : ℕ) (rest : List ℕ) → is_word_letter letter ≡ false → is_client_word letter rest ≡ false
 unfolding is_client_word
 no_client_word letter rest f =
-    rw (no_letter letter (byte "c") f refl, no_letter letter (byte "e") f refl, no_letter letter (byte "g") f refl, no_letter letter (byte "h") f refl, no_letter letter (byte "n") f refl, no_letter letter (byte "p") f refl, no_letter letter (byte "q") f refl, no_letter letter (byte "r") f refl, no_letter letter (byte "s") f refl, no_letter letter (byte "t") f refl, no_letter letter (byte "u") f refl, no_letter letter (byte "w") f refl) refl
+    rw (no_letter letter (byte "c") f refl, no_letter letter (byte "e") f refl, no_letter letter (byte "g") f refl, no_letter letter (byte "h") f refl, no_letter letter (byte "n") f refl, no_letter letter (byte "p") f refl, no_letter letter (byte "q") f refl, no_letter letter (byte "r") f refl, no_letter letter (byte "s") f refl, no_letter letter (byte "t") f refl, no_letter letter (byte "u") f refl, no_letter letter (byte "w") f refl, no_letter letter question_mark f refl) refl
 
 pub no_word_found : (statement line : Bool) (letter : ℕ) (rest : List ℕ) → is_word_letter letter ≡ false →
     found_word statement line letter rest ≡ None
@@ -372,7 +373,7 @@ token_found_moves statement line before (HashComment tail) u h = h
 token_found_moves statement line before (DashComment gap tail) u h = h
 token_found_moves statement line before (BlockComment tail) u h = block_moves tail u h
 token_found_moves statement line before (Name name) u h = h
-token_found_moves statement line before Mark u h = h
+token_found_moves statement line before Mark u h = word_moves statement line question_mark u h
 token_found_moves statement line before (Plain b) u h = byte_moves statement line b u h
 
 pub found_moves : (statement line : Bool) (before : ℕ) (t : Token) {x y : List ℕ} → UpTo (last_byte before (bytes_of t)) x y →
@@ -390,6 +391,26 @@ AreSentBefore rest statement line (t ∷ ts) =
     (found_in_client statement line t (text_then rest ts) ≡ None)
     × AreSentBefore rest (begins_statement statement t) (begins_line line t) ts
 
+-- the same, except at marks
+abbrev pub AreSentExceptMarksBefore : List ℕ → Bool → Bool → List Token → Type 0
+AreSentExceptMarksBefore rest statement line [] = ⊤
+AreSentExceptMarksBefore rest statement line (Mark ∷ ts) = AreSentExceptMarksBefore rest false false ts
+AreSentExceptMarksBefore rest statement line (t ∷ ts) =
+    (found_in_client statement line t (text_then rest ts) ≡ None)
+    × AreSentExceptMarksBefore rest (begins_statement statement t) (begins_line line t) ts
+
+pub except_marks : (ts : List Token) (statement line : Bool) → AreSentAsTheyAreFrom statement line ts → AreSentExceptMarksFrom statement line ts
+except_marks [] statement line h = tt
+except_marks (Mark ∷ ts) statement line h = except_marks ts false false h.1
+except_marks (t ∷ ts) statement line h = (h.0, except_marks ts (begins_statement statement t) (begins_line line t) h.1)
+
+-- tokens without places have no marks
+pub without_marks : (ts : List Token) (statement line : Bool) → place_count ts ≡ 0 → AreSentExceptMarksFrom statement line ts → AreSentAsTheyAreFrom statement line ts
+without_marks [] statement line e h = tt
+without_marks (Name name ∷ ts) statement line e h = absurd (omega arith)
+without_marks (Mark ∷ ts) statement line e h = absurd (omega arith)
+without_marks (t ∷ ts) statement line e h = (h.0, without_marks ts (begins_statement statement t) (begins_line line t) e h.1)
+
 -- whether a statement and a line may begin after the tokens
 abbrev pub statement_after : Bool → List Token → Bool
 statement_after statement [] = statement
@@ -403,14 +424,16 @@ line_after line (t ∷ ts) = line_after (begins_line line t) ts
 pub record IsSentAt (before : ℕ) (list : List Token) (rest : List ℕ) : Type 0 where
   pub stands : may_stand_before before ≡ true
   pub front : begins_as_sent (text_then rest list) ≡ true
-  pub sent : (statement line : Bool) → AreSentBefore rest statement line list
+  pub sent : (statement line : Bool) → AreSentExceptMarksBefore rest statement line list
   pub no_statement : (statement : Bool) → statement_after statement list ≡ false
   pub no_line : (line : Bool) → line_after line list ≡ false
 
-pub sent_append : (xs ys : List Token) (statement line : Bool) → AreSentBefore (text_of ys) statement line xs →
-    AreSentAsTheyAreFrom (statement_after statement xs) (line_after line xs) ys → AreSentAsTheyAreFrom statement line (xs ++ ys)
+sent_append : (xs ys : List Token) (statement line : Bool) → AreSentExceptMarksBefore (text_of ys) statement line xs →
+    AreSentExceptMarksFrom (statement_after statement xs) (line_after line xs) ys → AreSentExceptMarksFrom statement line (xs ++ ys)
 sent_append [] ys statement line h k = k
-sent_append (x ∷ xs) ys statement line h k = (rw (text_then-append xs ys []) h.0, sent_append xs ys (begins_statement statement x) (begins_line line x) h.1 k)
+sent_append (Mark ∷ xs) ys statement line h k = sent_append xs ys false false h k
+sent_append (x ∷ xs) ys statement line h k =
+    (subst (λ z. found_in_client statement line x z ≡ None) (sym (text_then-append xs ys [])) h.0, sent_append xs ys (begins_statement statement x) (begins_line line x) h.1 k)
 
 list_front : (before : ℕ) (list ts : List Token) → IsSentAt before list (text_of ts) → begins_as_sent (text_of (list ++ ts)) ≡ true
 list_front before list ts s = rw (text_then-append list ts []) s.front
@@ -429,23 +452,23 @@ up_to_place mode before (t ∷ ts) lists h s =
     up_append before (bytes_of t) (up_to_place mode (last_byte before (bytes_of t)) ts lists h.1 s)
 
 place_sent : (before : ℕ) (list ts : List Token) (statement line : Bool) → IsSentAt before list (text_of ts) →
-    AreSentAsTheyAreFrom false false ts → AreSentAsTheyAreFrom statement line (list ++ ts)
+    AreSentExceptMarksFrom false false ts → AreSentExceptMarksFrom statement line (list ++ ts)
 place_sent before list ts statement line s h =
     sent_append list ts statement line (s.sent statement line)
-    (subst (λ a. AreSentAsTheyAreFrom a (line_after line list) ts) (sym (s.no_statement statement))
-    (subst (λ a. AreSentAsTheyAreFrom false a ts) (sym (s.no_line line)) h))
+    (subst (λ a. AreSentExceptMarksFrom a (line_after line list) ts) (sym (s.no_statement statement))
+    (subst (λ a. AreSentExceptMarksFrom false a ts) (sym (s.no_line line)) h))
 
--- the text is sent as it is, if the query is
+-- the text is sent as it is, if the query is, both except at marks
 pub spliced_sent : (mode : Bool) (before : ℕ) (ts : List Token) (lists : List (List Token)) (statement line : Bool) →
-    AreTokensBefore mode [] ts → AtPlaces IsSentAt before ts lists → AreSentAsTheyAreFrom statement line ts →
-    AreSentAsTheyAreFrom statement line (with_literal_tokens ts lists)
+    AreTokensBefore mode [] ts → AtPlaces IsSentAt before ts lists → AreSentExceptMarksFrom statement line ts →
+    AreSentExceptMarksFrom statement line (with_literal_tokens ts lists)
 spliced_sent mode before [] lists statement line h s k = tt
 spliced_sent mode before (Name name ∷ ts) [] statement line h s k = absurd s
 spliced_sent mode before (Name name ∷ ts) (list ∷ lists) statement line h s k =
     place_sent before list (with_literal_tokens ts lists) statement line s.0 (spliced_sent mode (last_byte colon name) ts lists false false h.1 s.1 k.1)
 spliced_sent mode before (Mark ∷ ts) [] statement line h s k = absurd s
 spliced_sent mode before (Mark ∷ ts) (list ∷ lists) statement line h s k =
-    place_sent before list (with_literal_tokens ts lists) statement line s.0 (spliced_sent mode question_mark ts lists false false h.1 s.1 k.1)
+    place_sent before list (with_literal_tokens ts lists) statement line s.0 (spliced_sent mode question_mark ts lists false false h.1 s.1 k)
 spliced_sent mode before (t ∷ ts) lists statement line h s k = (
   found_moves statement line before t (up_to_place mode (last_byte before (bytes_of t)) ts lists h.1 s) k.0,
   spliced_sent mode (last_byte before (bytes_of t)) ts lists (begins_statement statement t) (begins_line line t) h.1 s k.1,

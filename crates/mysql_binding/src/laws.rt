@@ -12,7 +12,7 @@ ghost use Rattle.mysql_portable.specs.Portable.{AreReadAlike, IsPortable, IsRead
 ghost use Rattle.mysql_portable.specs.Server.{Server, IsReadOn};
 ghost use Rattle.mysql_portable.specs.Quiet.{IsHonest, DecidesWithin};
 ghost use Rattle.mysql_portable.specs.Client.{Client, IsReadBy, HoldNoOpener};
-ghost use Rattle.mysql_portable.specs.FirstUnportableInClient.{AreSentAsTheyAre, IsPortableInClient};
+ghost use Rattle.mysql_portable.specs.FirstUnportableInClient.{AreSentExceptMarks, IsPortableInClient};
 ghost use Rattle.mysql_portable.specs.Statements.{statements};
 ghost use Rattle.mysql_params_core.specs.Given.{Given, empty, positional};
 ghost use Rattle.mysql_binding.specs.BindErrors.{AreEqualBindErrors};
@@ -99,14 +99,14 @@ pub fn bound_texts_in_clients()
         statements_with_literals (statements us) b.literal_tokens }
 {}
 
-/// If a query is portable in a client, and no literal has a newline or a byte 0, a text that is
-/// bound to the query is portable there too (`portable`). With backslash escapes no literal has one
-/// (`escaped`). Without them, a string has those of its value, and a client may drop one. In this
-/// case the bound text itself has to be tested.
+/// If a query is portable in a client, except at its marks, and no literal has a newline or a byte
+/// 0, a text that is bound to the query is portable there too (`portable`). With backslash escapes
+/// no literal has one (`escaped`). Without them, a string has those of its value, and a client may
+/// drop one. In this case the bound text itself has to be tested.
 pub fn bound_texts_are_sent()
     ensures portable { (mode : Bool) (query text : List ℕ) (ts : List Token) (given : Given) →
         IsTokens mode query ts → (b : IsBoundText mode ts given text) → AreInLine b.literals →
-        AreReadAlike ts → HoldNoOpener ts → AreSentAsTheyAre ts →
+        AreReadAlike ts → HoldNoOpener ts → AreSentExceptMarks ts →
         IsPortableInClient (with_literal_tokens ts b.literal_tokens) }
     ensures escaped { (ts : List Token) (given : Given) (text : List ℕ) →
         (b : IsBoundText with_backslashes ts given text) → AreInLine b.literals }

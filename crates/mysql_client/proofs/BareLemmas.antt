@@ -12,9 +12,9 @@ use Rattle.mysql_named_params.specs.Tokens.{Token, bytes_of, text_of, IsTokens, 
 use Rattle.mysql_portable.specs.Statements.{in_first, statements}
 use Rattle.mysql_portable.specs.FirstUnportableInClient.{first_unportable_in_client}
 use Rattle.mysql_client.specs.Outgoing.{Outgoing, is_space, is_empty, is_trimmed, in_front, trimmed, with_statement, pass_on, pass_as_is, send, send_if, end_line}
-use Rattle.mysql_client.specs.ClientState.{Program, mariadb}
+use Rattle.mysql_client.specs.ClientState.{Program}
 use Rattle.mysql_client.specs.Sends.{is_return, nothing_sent, begins_mark, sends}
-use Rattle.mysql_client.specs.SentStatements.{Gathering, no_part, first_gathering, plain_out, plain_after, byte_after, line_out, name_out, gathered_after, gathered_from, sent_from, sent_statements, BeginWithNoMark, ends_in_backslash}
+use Rattle.mysql_client.specs.SentStatements.{Gathering, no_part, first_gathering, plain_out, plain_after, byte_after, line_out, name_out, gathered_after, gathered_from, sent_from, sent_statements}
 use Rattle.mysql_client.specs.PlainStatements.{past_space, bare, if_any, bare_texts, HoldNoComment, HoldNoHint, has_return}
 use Rattle.mysql_client.proofs.StepLemmas.{no_return}
 use Rattle.mysql_client.proofs.KeptLemmas.{IsKept, kept_on, kept_as_is, kept_line, nothing_kept, sent_is, gathered_is, owed_is, kept_string, kept_name, kept_plain}
@@ -321,11 +321,11 @@ walk_bare p g (Plain b ∷ ts) e n c m r =
     ∙ (walk_bare p (plain_after b (text_of ts) g) ts here.0 (still_outside b (text_of ts) g n) c.1 m.1 parts.1 ∙ here.1)
 
 pub bare_sent : (p : Program) (mode : Bool) (text : List ℕ) (ts : List Token) → IsTokens mode text ts →
-    first_unportable_in_client ts ≡ None → (p ≡ mariadb → BeginWithNoMark ts) → ends_in_backslash text ≡ false →
+    first_unportable_in_client ts ≡ None →
     HoldNoComment ts → HoldNoHint p ts → has_return text ≡ false → begins_mark text ≡ false →
     map past_space (sends p mode text).statements ≡ bare_texts (statements ts)
-bare_sent p mode text ts h e m l c s r u =
-    let whole = lemmas.sent p mode text ts h e m l in
+bare_sent p mode text ts h e c s r u =
+    let whole = lemmas.sent p mode text ts h e in
     let no_mark : begins_mark (text_of ts) ≡ false = ap begins_mark h.text ∙ u in
     let all : sent_statements p ts ≡ sent_from p ts = rw no_mark refl in
     ap (λ x. map past_space x.statements) whole

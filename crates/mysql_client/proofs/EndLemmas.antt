@@ -8,7 +8,6 @@ use Rattle.mysql_portable.specs.FoundInClient.{letter_of, begins_word}
 use Rattle.mysql_client.specs.ClientState.{begins_close, State}
 use Rattle.mysql_client.specs.Outgoing.{Outgoing}
 use Rattle.mysql_client.specs.Sends.{goes_on}
-use Rattle.mysql_client.specs.SentStatements.{ends_in_backslash}
 use Rattle.mysql_client.specs.ClientState.{outside}
 use Rattle.mysql_client.proofs.StepLemmas.{base}
 
@@ -109,13 +108,3 @@ pub begins_up_to_close : (test : ℕ → Bool) (xs rest : List ℕ) → UpToClos
     begins test (xs ++ rest) ≡ begins test xs
 begins_up_to_close test [] rest u = rw u refl
 begins_up_to_close test (x ∷ xs) rest u = refl
-
--- ---- a backslash at the end
-
-pub last_of : (b : ℕ) (bs : List ℕ) → ends_in_backslash (b ∷ bs) ≡ false → ends_in_backslash bs ≡ false
-last_of b [] h = refl
-last_of b (c ∷ cs) h = h
-
-pub last_after : (xs ys : List ℕ) → ends_in_backslash (xs ++ ys) ≡ false → ends_in_backslash ys ≡ false
-last_after [] ys h = h
-last_after (x ∷ xs) ys h = last_after xs ys (last_of x (xs ++ ys) h)

@@ -4,14 +4,14 @@ use Rattle.std.proofs.Common.{◌≡◌, ℕ, true, false, cond, ◌==◌, ◌&&
 use Rattle.std.specs.Str.{byte}
 use Rattle.std.proofs.lemmas.Bool.{cases_Bool, and_parts, or_parts, not-false, eqb-true}
 use Rattle.std.proofs.lemmas.Bool.Decides.{nat_tests}
-use Rattle.mysql_named_params.specs.Bytes.{asterisk, backquote, bracket, dash, dollar, hash, newline, question_mark, slash, space, colon, is_extension, is_string_quote, is_white_space, begins}
-use Rattle.mysql_named_params.specs.Tokens.{Token, IsToken, Plain, Mark}
-use Rattle.mysql_named_params.specs.TokensOf.{dash_comment, block_comment, name_at}
+use Rattle.mysql_named_params.specs.Bytes.{asterisk, backquote, bracket, dash, dollar, hash, newline, slash, space, is_extension, is_string_quote, is_white_space, begins}
+use Rattle.mysql_named_params.specs.Tokens.{Token, IsToken, Plain}
+use Rattle.mysql_named_params.specs.TokensOf.{dash_comment}
 use Rattle.mysql_named_params.proofs.PlainLemmas.{plain_none}
 use Rattle.mysql_portable.specs.ServerTokens.{keeps_dashes, begins_tag, begins_own, is_tag_byte, begins_place}
 use Rattle.mysql_portable.specs.Quiet.{begins_quiet}
 use Rattle.mysql_portable.specs.Portable.{is_read_alike, differs_at, may_open_line}
-use Rattle.mysql_portable.specs.FoundInClient.{letter_of, begins_word, ends_word, is_client_word, is_word_of_mariadb, is_word_of_mysql, drops_line, closes_before_joined, stand_before_comment, found_word, found_at_byte}
+use Rattle.mysql_portable.specs.FoundInClient.{letter_of, begins_word, is_client_word, is_word_of_mariadb, is_word_of_mysql, drops_line, closes_before_joined, stand_before_comment, found_word, found_at_byte}
 use Rattle.mysql_portable.specs.declared.portable.Construct.{Construct}
 use Rattle.mysql_client.specs.Outgoing.{is_space}
 use Rattle.mysql_client.specs.ClientState.{Program, begins_in_ascii, is_mariadb, is_gap, is_own_word, hides_command, begins_slash_star, ends_dashes, ends_tag}
@@ -53,7 +53,6 @@ record IsPlainByte (mode : Bool) (b : ℕ) (rest : List ℕ) : Type 0 where
   back : (b == backquote) ≡ false
   no_hash : (b == hash) ≡ false
   no_dashes : (b == dash) ≡ true → dash_comment rest ≡ None
-  no_mark : (b == question_mark) ≡ false
 
 plain_byte : (mode : Bool) (b : ℕ) (rest : List ℕ) → IsToken mode (Plain b) rest → IsPlainByte mode b rest
 plain_byte mode b rest h =
@@ -61,18 +60,7 @@ plain_byte mode b rest h =
     let e2 = some_not (b == backquote) _ _ e1.1 in
     let e3 = some_not (b == hash) _ _ e2.1 in
     let e4 = either (b == dash) _ _ e3.1 in
-    record { quote = e1.0; back = e2.0; no_hash = e3.0; no_dashes = e4.0; no_mark = mark e4.1 }
-  where
-    mark : ((b == dash) ≡ false → cond (b == slash) (block_comment rest) (cond (b == colon) (name_at rest) (cond (b == question_mark) (Some Mark) None)) ≡ None) → (b == question_mark) ≡ false
-    mark f =
-        elim (cases_Bool (b == question_mark)) [
-          | inl q ↦
-              let d : (b == dash) ≡ false = differs b dash (λ x. x == question_mark) q refl in
-              let s : (b == slash) ≡ false = differs b slash (λ x. x == question_mark) q refl in
-              let c : (b == colon) ≡ false = differs b colon (λ x. x == question_mark) q refl in
-              (some_not (b == question_mark) _ _ ((either (b == colon) _ _ ((either (b == slash) _ _ (f d)).1 s)).1 c)).0
-          | inr q ↦ q
-        ]
+    record { quote = e1.0; back = e2.0; no_hash = e3.0; no_dashes = e4.0 }
 
 -- after a plain `/` before `*`: the byte of a special comment's sign
 pub plain_extension : (mode : Bool) (text : List ℕ) → IsToken mode (Plain slash) (asterisk ∷ text) → begins is_extension text ≡ true
@@ -122,10 +110,10 @@ tag_ends (b ∷ bs) h =
 
 -- ---- words
 
-own_is_none : (p : Program) (ln st : Bool) (b : ℕ) (rest : List ℕ) → st ≡ true → ln ≡ true → (b == question_mark) ≡ false →
+own_is_none : (p : Program) (ln st : Bool) (b : ℕ) (rest : List ℕ) → st ≡ true → ln ≡ true →
     found_word st ln (letter_of b) rest ≡ None → is_own_word p b rest ≡ false
 unfolding is_client_word
-own_is_none p ln st b rest s l m h =
+own_is_none p ln st b rest s l h =
     let w = found_not _ _ _ h in
     let v = found_not _ _ _ w.1 in
     let d : (letter_of b == byte "d" && begins_word (codes "elimiter") rest) ≡ false =
@@ -134,8 +122,21 @@ own_is_none p ln st b rest s l m h =
     let word = (or_parts (is_word_of_mariadb (letter_of b) rest) (is_word_of_mysql (letter_of b) rest) c).0 in
     own (letter_of b == byte "d" && begins_word (codes "elimiter") rest) (is_word_of_mariadb (letter_of b) rest) d word
   where
-    own : (x y : Bool) → x ≡ false → y ≡ false → ((x && (is_mariadb p || begins_in_ascii (b ∷ rest))) || (cond (b == question_mark) (ends_word rest) y && is_mariadb p)) ≡ false
-    own x y e k = rw (e, k, m) refl
+    own : (x y : Bool) → x ≡ false → y ≡ false → ((x && (is_mariadb p || begins_in_ascii (b ∷ rest))) || (y && is_mariadb p)) ≡ false
+    own x y e k = rw (e, k) refl
+
+-- no command begins at a byte at which no word is found
+pub no_command_at : (p : Program) (st ln f : Bool) (b : ℕ) (rest : List ℕ) → (f ≡ true → st ≡ true) → (st ≡ true → ln ≡ true) →
+    begins_slash_star (b ∷ rest) ≡ false → found_word st ln (letter_of b) rest ≡ None →
+    ((is_own_word p b rest || hides_command p b rest) && f) ≡ false
+no_command_at p st ln f b rest fresh line slashes h =
+    elim (cases_Bool f) [
+      | inl t ↦ own_no (own_is_none p ln st b rest (fresh t) (line (fresh t)) h)
+      | inr e ↦ rw e (and_no (is_own_word p b rest || hides_command p b rest))
+    ]
+  where
+    own_no : is_own_word p b rest ≡ false → ((is_own_word p b rest || hides_command p b rest) && f) ≡ false
+    own_no e = rw (e, slashes) refl
 
 -- ---- all of it
 
@@ -178,10 +179,7 @@ passed p mode st ln f b rest h alike found slashes fresh line =
     ends_none p x rest (g.no_dashes t) (sym (ap (λ y. y && may_open_line rest) t) ∙ m)
     (λ e. sym (ap (λ y. y && drops_line rest) (fresh (k e))) ∙ (sym (ap (λ y. y && (st && drops_line rest)) t) ∙ c3.0))) in
     record {
-      own = elim (cases_Bool f) [
-        | inl t ↦ own_no (own_is_none p ln st b rest (fresh t) (line (fresh t)) g.no_mark c4.1)
-        | inr e ↦ rw e (and_no (is_own_word p b rest || hides_command p b rest))
-      ];
+      own = no_command_at p st ln f b rest fresh line slashes c4.1;
       no_slash = slashes;
       no_quote = rw (g.quote, g.back) refl;
       no_line = λ n. rw g.no_hash (dashes (n && f) (λ e. (and_parts n f e).1));
@@ -202,6 +200,3 @@ passed p mode st ln f b rest h alike found slashes fresh line =
     of_not : (x : Bool) → not x ≡ false → x ≡ true
     of_not true e = refl
     of_not false e = absurd (true≢false e)
-
-    own_no : is_own_word p b rest ≡ false → ((is_own_word p b rest || hides_command p b rest) && f) ≡ false
-    own_no e = rw (e, slashes) refl

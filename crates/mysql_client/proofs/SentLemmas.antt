@@ -9,11 +9,10 @@ use Rattle.mysql_portable.specs.FoundInClient.{begins_word, begins_no_word, begi
 use Rattle.mysql_portable.specs.FirstUnportableInClient.{first_unportable_in_client}
 use Rattle.mysql_portable.proofs.FrontLemmas.{quote_is}
 use Rattle.mysql_client.specs.Outgoing.{Outgoing, send}
-use Rattle.mysql_client.specs.ClientState.{Program, mysql, mariadb, Special, closes_comment, outside, State, past, finds_word, begins_close}
+use Rattle.mysql_client.specs.ClientState.{Program, mysql, Special, closes_comment, outside, State, past, finds_word, begins_close}
 use Rattle.mysql_client.specs.Sends.{Sending, step, steps, begin, sent_at_end, nothing_sent, sends_lines, begins_mark, sends}
-use Rattle.mysql_client.specs.SentStatements.{Gathering, no_part, first_gathering, opens_hint, byte_after, gathered_after, gathered_from, sent_from, sent_statements, is_mark, BeginWithNoMarkFrom, BeginWithNoMark, ends_in_backslash}
+use Rattle.mysql_client.specs.SentStatements.{Gathering, no_part, first_gathering, opens_hint, byte_after, gathered_after, gathered_from, sent_from, sent_statements}
 use Rattle.mysql_client.proofs.StepLemmas.{place, base, in_special_comment, in_block, InHint, before, steps_then, sent_over, Fits, Arrived, going, special_goes, hint_goes, hint_ends, over, HasNoZero, no_zero_after, and_no, line_goes}
-use Rattle.mysql_client.proofs.EndLemmas.{last_after}
 use Rattle.mysql_client.proofs.ClearLemmas.{IsClear, clear_of, no_zero, no_word}
 use Rattle.mysql_client.proofs.QuietLemmas.{quiet_byte, quiet_token, quiet_step}
 use Rattle.mysql_client.proofs.HintLemmas.{hint_byte, slash_token}
@@ -81,17 +80,16 @@ none_sent s st ln g (over nil goes e) = sent_over s.reading s.out goes ∙ ap al
 
 -- a token of a text in which nothing is found
 token_sent : (p : Program) (mode st ln : Bool) (s : State) (g : Gathering) (t : Token) (ts : List Token) →
-    Arrived s (bytes_of t ++ text_of ts) st ln g → AreTokensBefore mode [] (t ∷ ts) → IsClear st ln (t ∷ ts) → (p ≡ mariadb → (is_mark t && st) ≡ false) →
-    ends_in_backslash (bytes_of t ++ text_of ts) ≡ false →
+    Arrived s (bytes_of t ++ text_of ts) st ln g → AreTokensBefore mode [] (t ∷ ts) → IsClear st ln (t ∷ ts) →
     Arrived (before p mode (text_of ts) s (bytes_of t)) (text_of ts) (begins_statement st t) (begins_line ln t) (gathered_after p t (text_of ts) g)
-token_sent p mode st ln s g t ts (going f e n k) h c m l =
+token_sent p mode st ln s g t ts (going f e n k) h c =
     let front : f ≡ true → ln ≡ true = λ x. k.line_is (k.fresh_is x) in
     let look : f ≡ true → finds_word mysql past (text_of (t ∷ ts)) ≡ false =
     λ x. nothing_ahead mode st (t ∷ ts) h (subst (λ y. IsClear st y (t ∷ ts)) (front x) c) in
     subst (λ x. Arrived (before p mode (text_of ts) x (bytes_of t)) (text_of ts) (begins_statement st t) (begins_line ln t) (gathered_after p t (text_of ts) g)) (sym e)
     (subst (λ x. Arrived (before p mode (text_of ts) (base (place g.after) f g.out) (bytes_of t)) (text_of ts) (begins_statement st t) (begins_line ln t) (gathered_after p t (text_of ts) (record { after = g.after; part = x; out = g.out }))) (sym n)
-    (token_of p mode st ln g.after f t (text_of ts) g.out k h.0 c.0 c.1 m (no_zero st ln (t ∷ ts) c) l (word_after mode st ln t ts h c) look))
-token_sent p mode st ln s g t ts (special_goes sp o e n k q) h c m l =
+    (token_of p mode st ln g.after f t (text_of ts) g.out k h.0 c.0 c.1 (no_zero st ln (t ∷ ts) c) (word_after mode st ln t ts h c) look))
+token_sent p mode st ln s g t ts (special_goes sp o e n k q) h c =
     let plain = quiet_token mode t (text_of ts) h.0 q in
     let byte_is = subst (λ x. is_quiet (bytes_of x ++ text_of ts) ≡ true) plain.1 q in
     let zero = subst (λ x. HasNoZero (bytes_of x ++ text_of ts)) plain.1 (no_zero st ln (t ∷ ts) c) in
@@ -100,7 +98,7 @@ token_sent p mode st ln s g t ts (special_goes sp o e n k q) h c m l =
     (subst (λ x. Arrived (step p mode x plain.0 (text_of ts)) (text_of ts) (begins_statement st (Plain plain.0)) (begins_line ln (Plain plain.0)) (gathered_after p (Plain plain.0) (text_of ts) g)) (sym e)
     (subst (λ x. Arrived (step p mode (in_special_comment sp o) plain.0 (text_of ts)) (text_of ts) (begins_statement st (Plain plain.0)) (begins_line ln (Plain plain.0)) (gathered_after p (Plain plain.0) (text_of ts) x)) (sym n)
     (special_byte p mode sp st ln plain.0 (text_of ts) o byte_is zero k word)))
-token_sent p mode st ln s g t ts (hint_goes r d o e n k i q) h c m l =
+token_sent p mode st ln s g t ts (hint_goes r d o e n k i q) h c =
     let plain = quiet_token mode t (text_of ts) h.0 q in
     let byte_is = subst (λ x. is_quiet (bytes_of x ++ text_of ts) ≡ true) plain.1 q in
     let here = subst (λ x. InHint r (bytes_of x ++ text_of ts)) plain.1 i in
@@ -109,34 +107,33 @@ token_sent p mode st ln s g t ts (hint_goes r d o e n k i q) h c m l =
     (subst (λ x. Arrived (step p mode x plain.0 (text_of ts)) (text_of ts) (begins_statement st (Plain plain.0)) (begins_line ln (Plain plain.0)) (gathered_after p (Plain plain.0) (text_of ts) g)) (sym e)
     (subst (λ x. Arrived (step p mode (in_block r false d o) plain.0 (text_of ts)) (text_of ts) (begins_statement st (Plain plain.0)) (begins_line ln (Plain plain.0)) (gathered_after p (Plain plain.0) (text_of ts) x)) (sym n)
     (hint_byte p mode r d (begins_statement st (Plain plain.0)) (begins_line ln (Plain plain.0)) plain.0 (text_of ts) o here byte_is zero (no_statement st plain.0 (text_of ts) k byte_is))))
-token_sent p mode st ln s g t ts (hint_ends d o text e n k x apart) h c m l =
+token_sent p mode st ln s g t ts (hint_ends d o text e n k x apart) h c =
     let plain = slash_token mode t (text_of ts) text h.0 x apart in
     subst (λ x. Arrived (before p mode (text_of ts) s (bytes_of x)) (text_of ts) (begins_statement st x) (begins_line ln x) (gathered_after p x (text_of ts) g)) (sym plain.0)
     (subst (λ x. Arrived (step p mode x slash (text_of ts)) (text_of ts) false true (gathered_after p (Plain slash) (text_of ts) g)) (sym e)
     (subst (λ x. Arrived (step p mode (in_block closes_comment false d o) slash (text_of ts)) (text_of ts) false true (gathered_after p (Plain slash) (text_of ts) x)) (sym n)
     (going false refl refl (fits_none true))))
-token_sent p mode st ln s g t ts (over nil goes e) h c m l = absurd (some_bytes t (text_of ts) nil)
+token_sent p mode st ln s g t ts (over nil goes e) h c = absurd (some_bytes t (text_of ts) nil)
 
 walk : (p : Program) (mode st ln : Bool) (s : State) (g : Gathering) (ts : List Token) → Arrived s (text_of ts) st ln g →
-    AreTokensBefore mode [] ts → IsClear st ln ts → (p ≡ mariadb → BeginWithNoMarkFrom st ts) → ends_in_backslash (text_of ts) ≡ false →
+    AreTokensBefore mode [] ts → IsClear st ln ts →
     finish (steps p mode s (text_of ts)) ≡ all_sent (gathered_from p g ts).out
-walk p mode st ln s g [] a h e m l = none_sent s st ln g a
-walk p mode st ln s g (t ∷ ts) a h e m l =
+walk p mode st ln s g [] a h e = none_sent s st ln g a
+walk p mode st ln s g (t ∷ ts) a h e =
     ap finish (steps_then p mode (text_of ts) s (bytes_of t))
     ∙ walk p mode (begins_statement st t) (begins_line ln t) (before p mode (text_of ts) s (bytes_of t)) (gathered_after p t (text_of ts) g) ts
-    (token_sent p mode st ln s g t ts a h e (λ x. (m x).0) l) h.1 e.2 (λ x. (m x).1) (last_after (bytes_of t) (text_of ts) l)
+    (token_sent p mode st ln s g t ts a h e) h.1 e.2
 
 -- ---- a text
 
 sent_lines : (p : Program) (mode : Bool) (ts : List Token) → AreTokensBefore mode [] ts → IsClear true true ts →
-    (p ≡ mariadb → BeginWithNoMarkFrom true ts) → ends_in_backslash (text_of ts) ≡ false →
     sends_lines p mode (text_of ts) ≡ record { statements = sent_from p ts; comes_to_command = false }
-sent_lines p mode ts h e m l =
+sent_lines p mode ts h e =
     let front : begin p (text_of ts) ≡ base outside true nothing_sent =
     line_goes p (text_of ts) (base outside true nothing_sent) (no_zero true true ts e) (no_word mode true ts h e) in
     let fits : Fits true true true false = record { fresh_is = λ x. refl; line_is = λ x. refl; after_is = λ x. absurd (true≢false (sym x)) } in
     ap (λ x. finish (steps p mode x (text_of ts))) front
-    ∙ walk p mode true true (base outside true nothing_sent) first_gathering ts (going true refl refl fits) h e m l
+    ∙ walk p mode true true (base outside true nothing_sent) first_gathering ts (going true refl refl fits) h e
 
 -- ---- a UTF-8 mark
 
@@ -161,48 +158,41 @@ plain_front mode c (Mark ∷ ts) h k e = absurd (no_byte question_mark c k refl 
 plain_front mode c (Plain b ∷ ts) h k e = (ts, ap (λ x. Plain x ∷ ts) (eqb-true b c e))
 
 -- what is asked of tokens
-pub record IsFine (p : Program) (mode st ln : Bool) (ts : List Token) : Type 0 where
+pub record IsFine (mode st ln : Bool) (ts : List Token) : Type 0 where
   pub tokens : AreTokensBefore mode [] ts
   pub clear : IsClear st ln ts
-  pub no_mark : p ≡ mariadb → BeginWithNoMarkFrom st ts
-  pub last : ends_in_backslash (text_of ts) ≡ false
 
-fine_after : (p : Program) (mode st ln : Bool) (c : ℕ) (ts : List Token) → IsFine p mode st ln (Plain c ∷ ts) →
-    IsFine p mode (begins_statement st (Plain c)) (begins_line ln (Plain c)) ts
-fine_after p mode st ln c ts k = record {
-  tokens = k.tokens.1;
-  clear = k.clear.2;
-  no_mark = λ x. (k.no_mark x).1;
-  last = last_after (c ∷ []) (text_of ts) k.last;
-}
+fine_after : (mode st ln : Bool) (c : ℕ) (ts : List Token) → IsFine mode st ln (Plain c ∷ ts) →
+    IsFine mode (begins_statement st (Plain c)) (begins_line ln (Plain c)) ts
+fine_after mode st ln c ts k = record { tokens = k.tokens.1; clear = k.clear.2 }
 
-sent_fine : (p : Program) (mode : Bool) (ts : List Token) → IsFine p mode true true ts →
+sent_fine : (p : Program) (mode : Bool) (ts : List Token) → IsFine mode true true ts →
     sends_lines p mode (text_of ts) ≡ record { statements = sent_from p ts; comes_to_command = false }
-sent_fine p mode ts k = sent_lines p mode ts k.tokens k.clear k.no_mark k.last
+sent_fine p mode ts k = sent_lines p mode ts k.tokens k.clear
 
 -- the statements of a text with a mark
-sent_marked : (p : Program) (mode : Bool) (ts : List Token) → IsFine p mode true true ts → begins_mark (text_of ts) ≡ true →
+sent_marked : (p : Program) (mode : Bool) (ts : List Token) → IsFine mode true true ts → begins_mark (text_of ts) ≡ true →
     sends_lines p mode (drop 3 (text_of ts)) ≡ record { statements = sent_from p (drop 3 ts); comes_to_command = false }
 sent_marked p mode ts k e =
     let a = and_parts (begins (λ b. b == 239) (text_of ts)) (begins (λ b. b == 187) (drop 1 (text_of ts)) && begins (λ b. b == 191) (drop 2 (text_of ts))) e in
     let first = plain_front mode 239 ts k.tokens refl a.0 in
-    let k1 = fine_after p mode true true 239 first.0 (subst (IsFine p mode true true) first.1 k) in
+    let k1 = fine_after mode true true 239 first.0 (subst (IsFine mode true true) first.1 k) in
     let b1 = subst (λ x. (begins (λ b. b == 187) (drop 1 (text_of x)) && begins (λ b. b == 191) (drop 2 (text_of x))) ≡ true) first.1 a.1 in
     let b = and_parts (begins (λ b. b == 187) (text_of first.0)) (begins (λ b. b == 191) (drop 1 (text_of first.0))) b1 in
     let second = plain_front mode 187 first.0 k1.tokens refl b.0 in
-    let k2 = fine_after p mode true true 187 second.0 (subst (IsFine p mode true true) second.1 k1) in
+    let k2 = fine_after mode true true 187 second.0 (subst (IsFine mode true true) second.1 k1) in
     let c1 = subst (λ x. begins (λ b. b == 191) (drop 1 (text_of x)) ≡ true) second.1 b.1 in
     let third = plain_front mode 191 second.0 k2.tokens refl c1 in
-    let k3 = fine_after p mode true true 191 third.0 (subst (IsFine p mode true true) third.1 k2) in
+    let k3 = fine_after mode true true 191 third.0 (subst (IsFine mode true true) third.1 k2) in
     let all : ts ≡ Plain 239 ∷ Plain 187 ∷ Plain 191 ∷ third.0 = first.1 ∙ (ap (λ x. Plain 239 ∷ x) second.1 ∙ ap (λ x. Plain 239 ∷ Plain 187 ∷ x) third.1) in
     subst (λ x. sends_lines p mode (drop 3 (text_of x)) ≡ record { statements = sent_from p (drop 3 x); comes_to_command = false }) (sym all)
     (sent_fine p mode third.0 k3)
 
 pub sent : (p : Program) (mode : Bool) (text : List ℕ) (ts : List Token) → IsTokens mode text ts →
-    first_unportable_in_client ts ≡ None → (p ≡ mariadb → BeginWithNoMark ts) → ends_in_backslash text ≡ false →
+    first_unportable_in_client ts ≡ None →
     sends p mode text ≡ record { statements = sent_statements p ts; comes_to_command = false }
-sent p mode text ts h e m l =
-    let k : IsFine p mode true true ts = record { tokens = h.each; clear = clear_of ts 0 true true e; no_mark = m; last = ap ends_in_backslash h.text ∙ l } in
+sent p mode text ts h e =
+    let k : IsFine mode true true ts = record { tokens = h.each; clear = clear_of ts 0 true true e } in
     subst (λ x. sends p mode x ≡ record { statements = sent_statements p ts; comes_to_command = false }) h.text
     (elim (cases_Bool (begins_mark (text_of ts))) [
       | inl y ↦ rw y (sent_marked p mode ts k y)

@@ -9,7 +9,7 @@ use Rattle.mysql_portable.specs.declared.portable.Construct.TheVariants as const
 use Rattle.mysql_client.specs.Outgoing.{pass_on, pass_as_is, pass_with_next, owe, send, end_line}
 use Rattle.mysql_client.specs.ClientState.{Program, mysql, mariadb}
 use Rattle.mysql_client.specs.Sends.{Sending}
-use Rattle.mysql_client.specs.SentOtherwise.{IsSentOtherwiseBy, IsOverlooked, Sends}
+use Rattle.mysql_client.specs.SentOtherwise.{IsSentOtherwiseBy, Sends}
 
 -- ---- what tells two sendings apart
 
@@ -37,14 +37,10 @@ pub zero_byte : (p : Program) → IsSentOtherwiseBy p (97 ∷ 0 ∷ []) construc
 unfolding is_client_word pass_on pass_as_is pass_with_next owe send end_line
 zero_byte mysql = record {
   found = refl;
-  no_mark = (refl, (refl, tt));
-  last = refl;
   otherwise = differ_so one_is_sent _ _ refl refl;
 }
 zero_byte mariadb = record {
   found = refl;
-  no_mark = (refl, (refl, tt));
-  last = refl;
   otherwise = differ_so one_is_sent _ _ refl refl;
 }
 
@@ -52,14 +48,10 @@ pub opener_in_comment : (p : Program) → IsSentOtherwiseBy p (codes "/*/*!*/;5"
 unfolding is_client_word pass_on pass_as_is pass_with_next owe send end_line
 opener_in_comment mysql = record {
   found = refl;
-  no_mark = (refl, (refl, (refl, tt)));
-  last = refl;
   otherwise = differ one_is_sent _ _ refl refl;
 }
 opener_in_comment mariadb = record {
   found = refl;
-  no_mark = (refl, (refl, (refl, tt)));
-  last = refl;
   otherwise = differ one_is_sent _ _ refl refl;
 }
 
@@ -67,14 +59,10 @@ pub escaped_newline : (p : Program) → IsSentOtherwiseBy p (codes "'\\\n'") con
 unfolding is_client_word pass_on pass_as_is pass_with_next owe send end_line
 escaped_newline mysql = record {
   found = refl;
-  no_mark = (refl, tt);
-  last = refl;
   otherwise = differ (has_length 3) _ _ refl refl;
 }
 escaped_newline mariadb = record {
   found = refl;
-  no_mark = (refl, tt);
-  last = refl;
   otherwise = differ (has_length 3) _ _ refl refl;
 }
 
@@ -82,14 +70,10 @@ pub delimiter : (p : Program) → IsSentOtherwiseBy p (codes "5\ndelimiter\n5") 
 unfolding is_client_word pass_on pass_as_is pass_with_next owe send end_line
 delimiter mysql = record {
   found = refl;
-  no_mark = (refl, (refl, (refl, (refl, (refl, (refl, (refl, (refl, (refl, (refl, (refl, (refl, (refl, tt)))))))))))));
-  last = refl;
   otherwise = differ (has_length 12) _ _ refl refl;
 }
 delimiter mariadb = record {
   found = refl;
-  no_mark = (refl, (refl, (refl, (refl, (refl, (refl, (refl, (refl, (refl, (refl, (refl, (refl, (refl, tt)))))))))))));
-  last = refl;
   otherwise = differ (has_length 12) _ _ refl refl;
 }
 
@@ -97,14 +81,10 @@ pub client_command : (p : Program) → IsSentOtherwiseBy p (codes "5\\g") constr
 unfolding is_client_word pass_on pass_as_is pass_with_next owe send end_line
 client_command mysql = record {
   found = refl;
-  no_mark = (refl, (refl, (refl, tt)));
-  last = refl;
   otherwise = differ (λ s. s.comes_to_command) _ _ refl refl;
 }
 client_command mariadb = record {
   found = refl;
-  no_mark = (refl, (refl, (refl, tt)));
-  last = refl;
   otherwise = differ (λ s. s.comes_to_command) _ _ refl refl;
 }
 
@@ -112,8 +92,6 @@ pub client_word : IsSentOtherwiseBy mariadb (codes "use a") construct.ClientWord
 unfolding is_client_word pass_on pass_as_is pass_with_next owe send end_line
 client_word = record {
   found = refl;
-  no_mark = (refl, (refl, (refl, (refl, (refl, tt)))));
-  last = refl;
   otherwise = differ (λ s. s.comes_to_command) _ _ refl refl;
 }
 
@@ -121,10 +99,17 @@ pub dash_in_front : IsSentOtherwiseBy mariadb (codes "--a\n5") construct.DashInF
 unfolding is_client_word pass_on pass_as_is pass_with_next owe send end_line
 dash_in_front = record {
   found = refl;
-  no_mark = (refl, (refl, (refl, (refl, (refl, tt)))));
-  last = refl;
   otherwise = differ_so one_is_sent _ _ refl refl;
 }
+
+pub mark_in_front : IsSentOtherwiseBy mariadb (codes "?") construct.ClientWord 0
+unfolding is_client_word pass_on pass_as_is pass_with_next owe send end_line
+mark_in_front = record { found = refl; otherwise = differ (λ s. s.comes_to_command) _ _ refl refl }
+
+pub backslash_at_end : (p : Program) → IsSentOtherwiseBy p (codes "'a\\") construct.EscapedNewline 0
+unfolding is_client_word pass_on pass_as_is pass_with_next owe send end_line
+backslash_at_end mysql = record { found = refl; otherwise = differ (has_length 2) _ _ refl refl }
+backslash_at_end mariadb = record { found = refl; otherwise = differ (has_length 2) _ _ refl refl }
 
 -- ---- a space within a word
 
@@ -151,14 +136,3 @@ nothing_at_hint = refl
 pub hint : Sends mariadb (codes "/**//*+b*/,c") (codes "/**//* +b*/ ,c" ∷ [])
 unfolding is_client_word pass_on pass_as_is pass_with_next owe send end_line
 hint = refl
-
--- ---- though nothing is found
-
-pub mark_in_front : IsOverlooked mariadb (codes "?")
-unfolding is_client_word pass_on pass_as_is pass_with_next owe send end_line
-mark_in_front = record { none = refl; otherwise = differ (λ s. s.comes_to_command) _ _ refl refl }
-
-pub backslash_at_end : (p : Program) → IsOverlooked p (codes "'a\\")
-unfolding is_client_word pass_on pass_as_is pass_with_next owe send end_line
-backslash_at_end mysql = record { none = refl; otherwise = differ (has_length 2) _ _ refl refl }
-backslash_at_end mariadb = record { none = refl; otherwise = differ (has_length 2) _ _ refl refl }

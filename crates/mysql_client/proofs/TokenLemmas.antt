@@ -14,16 +14,16 @@ use Rattle.mysql_portable.specs.FoundInClient.{is_joined, begins_word, begins_st
 use Rattle.mysql_portable.proofs.ClientLemmas.{opener_in_front}
 use Rattle.mysql_portable.proofs.FrontLemmas.{quote_is}
 use Rattle.mysql_client.specs.Outgoing.{Outgoing, is_space, is_empty, pass_on, pass_as_is, pass_with_next, send_if}
-use Rattle.mysql_client.specs.ClientState.{Program, mysql, mariadb, is_mariadb, no_special, only_read, outside, in_comment, State, is_mariadb_word, is_own_word, past, look_in, finds_word, hides_command, is_none, special_at, begins_slash_star}
+use Rattle.mysql_client.specs.ClientState.{Program, mysql, mariadb, is_mariadb, no_special, only_read, outside, in_comment, State, is_own_word, past, look_in, finds_word, hides_command, is_none, special_at, begins_slash_star}
 use Rattle.mysql_client.specs.Sends.{step, is_return}
-use Rattle.mysql_client.specs.SentStatements.{no_part, line_out, name_out, plain_out, opens_hint, byte_after, bytes_after, comment_after, gathered_after, is_mark, ends_in_backslash}
+use Rattle.mysql_client.specs.SentStatements.{no_part, line_out, name_out, plain_out, opens_hint, byte_after, bytes_after, comment_after, gathered_after}
 use Rattle.mysql_client.proofs.StepLemmas.{place, base, in_block, before, Fits, Arrived, going, over, differs, and_no, HasNoZero, no_zero_after}
-use Rattle.mysql_client.proofs.EndLemmas.{Ends, closed_end, open_end, up_to_byte, UpToClose, up_to_close, begins_up_to_close, last_of}
+use Rattle.mysql_client.proofs.EndLemmas.{Ends, closed_end, open_end, up_to_byte, UpToClose, up_to_close, begins_up_to_close}
 use Rattle.mysql_client.proofs.QuotedLemmas.{inside, IsTame}
 use Rattle.mysql_client.proofs.TextLemmas.{single_string, double_string, identifier_of, in_line_comment, line_of}
 use Rattle.mysql_client.proofs.CommentLemmas.{block_of}
 use Rattle.mysql_client.proofs.PlainStepLemmas.{IsPassed, place_step, outside_step, fresh_after, plain_of}
-use Rattle.mysql_client.proofs.PlainFactLemmas.{found_not, plain_extension, passed}
+use Rattle.mysql_client.proofs.PlainFactLemmas.{found_not, no_command_at, plain_extension, passed}
 use Rattle.mysql_client.proofs.QuietLemmas.{only_read_comment}
 use Rattle.mysql_client.proofs.HintLemmas.{sign_of}
 
@@ -71,19 +71,19 @@ open_back p mode false f rest o = refl
 open_back p mode true f rest o = refl
 
 string_token : (p : Program) (mode a f : Bool) (q : ℕ) (tail rest : List ℕ) (o : Outgoing) → is_string_quote q ≡ true →
-    IsStringTail mode q tail rest → IsTame tail rest → ends_in_backslash (tail ++ rest) ≡ false →
+    IsStringTail mode q tail rest → IsTame tail rest →
     Ends (before p mode rest (base (place a) f o) (q ∷ tail)) rest false (line_out false tail rest (pass_on q (tail ++ rest) (send_if a o)))
-string_token p mode a f q tail rest o h s t l = go (quote_is q h)
+string_token p mode a f q tail rest o h s t = go (quote_is q h)
   where
     go : (q ≡ single_quote) ⊎ (q ≡ double_quote) → Ends (before p mode rest (base (place a) f o) (q ∷ tail)) rest false (line_out false tail rest (pass_on q (tail ++ rest) (send_if a o)))
     go (inl e) =
         subst (λ x. Ends (before p mode rest (base (place a) f o) (x ∷ tail)) rest false (line_out false tail rest (pass_on x (tail ++ rest) (send_if a o)))) (sym e)
         (subst (λ v. Ends (before p mode rest v tail) rest false (line_out false tail rest (pass_on single_quote (tail ++ rest) (send_if a o)))) (sym (open_single p mode a f (tail ++ rest) o))
-        (single_string p mode tail rest _ (subst (λ x. IsStringTail mode x tail rest) e s) t l))
+        (single_string p mode tail rest _ (subst (λ x. IsStringTail mode x tail rest) e s) t))
     go (inr e) =
         subst (λ x. Ends (before p mode rest (base (place a) f o) (x ∷ tail)) rest false (line_out false tail rest (pass_on x (tail ++ rest) (send_if a o)))) (sym e)
         (subst (λ v. Ends (before p mode rest v tail) rest false (line_out false tail rest (pass_on double_quote (tail ++ rest) (send_if a o)))) (sym (open_double p mode a f (tail ++ rest) o))
-        (double_string p mode tail rest _ (subst (λ x. IsStringTail mode x tail rest) e s) t l))
+        (double_string p mode tail rest _ (subst (λ x. IsStringTail mode x tail rest) e s) t))
 
 -- ---- comments of one line
 
@@ -165,17 +165,11 @@ all_name_bytes : (name : List ℕ) → IsName name → true ≡ list_all is_name
 all_name_bytes [] h = absurd h
 all_name_bytes (b ∷ bs) h = rw (h.0, h.1) refl
 
-mark_of : (p : Program) (mode : Bool) (rest : List ℕ) (o : Outgoing) →
-    step p mode (base outside false o) question_mark rest ≡ base outside false (pass_on question_mark rest o)
-mark_of p mode rest o =
-    let own : ((is_own_word p question_mark rest || hides_command p question_mark rest) && false) ≡ false = and_no _ in
-    rw own refl
-
--- `?` is no word of `mysql`
-mark_of_mysql : (mode a f : Bool) (rest : List ℕ) (o : Outgoing) →
-    step mysql mode (base (place a) f o) question_mark rest ≡ base outside false (pass_on question_mark rest (send_if a o))
-mark_of_mysql mode false f rest o = rw (and_no (is_mariadb_word question_mark rest)) refl
-mark_of_mysql mode true f rest o = rw (and_no (is_mariadb_word question_mark rest)) refl
+mark_of : (p : Program) (mode a f : Bool) (rest : List ℕ) (o : Outgoing) →
+    ((is_own_word p question_mark rest || hides_command p question_mark rest) && f) ≡ false →
+    step p mode (base (place a) f o) question_mark rest ≡ base outside false (pass_on question_mark rest (send_if a o))
+mark_of p mode false f rest o own = rw own refl
+mark_of p mode true f rest o own = rw own refl
 
 -- ---- each token
 
@@ -213,22 +207,22 @@ sign_token p mode st ln a f b (c ∷ text) o h alike s look =
 
 pub token_of : (p : Program) (mode st ln a f : Bool) (t : Token) (rest : List ℕ) (o : Outgoing) → Fits st ln f a →
     IsToken mode t rest → is_read_alike t rest ≡ true → found_in_client st ln t rest ≡ None →
-    (p ≡ mariadb → (is_mark t && st) ≡ false) → HasNoZero (bytes_of t ++ rest) → ends_in_backslash (bytes_of t ++ rest) ≡ false →
+    HasNoZero (bytes_of t ++ rest) →
     (begins_line ln t ≡ true → begins_word (codes "delimiter") rest ≡ false) →
     (f ≡ true → finds_word mysql past (bytes_of t ++ rest) ≡ false) →
     Arrived (before p mode rest (base (place a) f o) (bytes_of t)) rest (begins_statement st t) (begins_line ln t)
     (gathered_after p t rest (record { after = a; part = no_part; out = o }))
-token_of p mode st ln a f (QuotedString q tail) rest o k h alike found mark z l w look =
+token_of p mode st ln a f (QuotedString q tail) rest o k h alike found z w look =
     let inner = (found_not _ _ _ found).1 in
-    arrive false false false _ (string_token p mode a f q tail rest o h.0 h.1 (tame_of tail rest inner (no_zero_after q (tail ++ rest) z)) (last_of q (tail ++ rest) l)) (fits_none false)
-token_of p mode st ln a f (QuotedIdentifier tail) rest o k h alike found mark z l w look =
+    arrive false false false _ (string_token p mode a f q tail rest o h.0 h.1 (tame_of tail rest inner (no_zero_after q (tail ++ rest) z))) (fits_none false)
+token_of p mode st ln a f (QuotedIdentifier tail) rest o k h alike found z w look =
     let inner = (found_not _ _ _ found).1 in
     subst (λ v. Arrived (before p mode rest v tail) rest false false (gathered_after p (QuotedIdentifier tail) rest (record { after = a; part = no_part; out = o }))) (sym (open_back p mode a f (tail ++ rest) o))
-    (arrive false false false _ (identifier_of p mode tail rest (pass_on backquote (tail ++ rest) (send_if a o)) (up_to_byte backquote tail rest h) (tame_of tail rest inner (no_zero_after backquote (tail ++ rest) z)) (last_of backquote (tail ++ rest) l)) (fits_none false))
-token_of p mode st ln a f (HashComment tail) rest o k h alike found mark z l w look =
+    (arrive false false false _ (identifier_of p mode tail rest (pass_on backquote (tail ++ rest) (send_if a o)) (up_to_byte backquote tail rest h) (tame_of tail rest inner (no_zero_after backquote (tail ++ rest) z))) (fits_none false))
+token_of p mode st ln a f (HashComment tail) rest o k h alike found z w look =
     subst (λ v. Arrived (before p mode rest v tail) rest st true (gathered_after p (HashComment tail) rest (record { after = a; part = no_part; out = o }))) (sym (open_hash p mode a f (tail ++ rest) o))
     (arrive st true (cond a f (f && is_empty o.gathered)) _ (line_of p mode (a || is_empty o.gathered) (cond a f (f && is_empty o.gathered)) tail rest (pass_as_is hash o) (up_to_byte newline tail rest h) (no_zero_after hash (tail ++ rest) z) (w refl)) (fits_comment st _ (λ x. k.fresh_is (still_fresh a f (is_empty o.gathered) x))))
-token_of p mode st ln a f (DashComment gap tail) rest o k h alike found mark z l w look =
+token_of p mode st ln a f (DashComment gap tail) rest o k h alike found z w look =
     let gap_is : gap ≡ space = eqb-true gap space (and_parts (gap == space) (not (holds_return tail)) alike).0 in
     subst (λ g. Arrived (before p mode rest (base (place a) f o) (dash ∷ dash ∷ g ∷ tail)) rest st true (gathered_after p (DashComment g tail) rest (record { after = a; part = no_part; out = o }))) (sym gap_is)
     (subst (λ v. Arrived (before p mode rest v (dash ∷ space ∷ tail)) rest st true (gathered_after p (DashComment space tail) rest (record { after = a; part = no_part; out = o }))) (sym (open_dashes p mode a f (tail ++ rest) o))
@@ -238,7 +232,7 @@ token_of p mode st ln a f (DashComment gap tail) rest o k h alike found mark z l
   where
     zero_after : gap ≡ space → HasNoZero (dash ∷ space ∷ (tail ++ rest))
     zero_after e = no_zero_after dash (dash ∷ space ∷ (tail ++ rest)) (subst (λ g. HasNoZero (dash ∷ dash ∷ g ∷ (tail ++ rest))) e z)
-token_of p mode st ln a f (BlockComment tail) rest o k h alike found mark z l w look =
+token_of p mode st ln a f (BlockComment tail) rest o k h alike found z w look =
     let inner = (found_not _ _ _ found).1 in
     let holds = found_not (holds_opener tail) _ _ inner in
     let up = up_to_close tail rest h.1 in
@@ -264,16 +258,11 @@ token_of p mode st ln a f (BlockComment tail) rest o k h alike found mark z l w 
         let all = only_read_comment mode a f tail rest o special h.0 u quiet z line in
         subst (Arrived (before mariadb mode rest (base (place a) f o) (slash ∷ asterisk ∷ tail)) rest st true) (sym all.2)
         (going false all.1 refl (fits_comment st false (λ x. absurd (true≢false (sym x)))))
-token_of p mode st ln a f (Name name) rest o k h alike found mark z l w look =
+token_of p mode st ln a f (Name name) rest o k h alike found z w look =
     going false (ap (λ s. before p mode rest s name) (open_colon p mode a f (name ++ rest) o) ∙ name_of p mode name rest (pass_on colon (name ++ rest) (send_if a o)) (sym (all_name_bytes name h.0))) refl (fits_none false)
-token_of mysql mode st ln a f Mark rest o k h alike found mark z l w look = going false (mark_of_mysql mode a f rest o) refl (fits_none false)
-token_of mariadb mode st ln a f Mark rest o k h alike found mark z l w look =
-    let stale : f ≡ false = elim (cases_Bool f) [ inl e ↦ absurd (true≢false (sym (k.fresh_is e) ∙ mark refl)) | inr e ↦ e ] in
-    let later : a ≡ false = elim (cases_Bool a) [ inl e ↦ absurd (true≢false (sym (k.after_is e).0 ∙ stale)) | inr e ↦ e ] in
-    subst (λ x. Arrived (step mariadb mode (base (place x) f o) question_mark rest) rest false false (record { after = false; part = no_part; out = pass_on question_mark rest (send_if x o) })) (sym later)
-    (subst (λ y. Arrived (step mariadb mode (base outside y o) question_mark rest) rest false false (record { after = false; part = no_part; out = pass_on question_mark rest o })) (sym stale)
-    (going false (mark_of mariadb mode rest o) refl (fits_none false)))
-token_of p mode st ln a f (Plain b) rest o k h alike found mark z l w look =
+token_of p mode st ln a f Mark rest o k h alike found z w look =
+    going false (mark_of p mode a f rest o (no_command_at p st ln f question_mark rest k.fresh_is k.line_is refl found)) refl (fits_none false)
+token_of p mode st ln a f (Plain b) rest o k h alike found z w look =
     let inner = (found_not _ _ _ found).1 in
     elim (cases_Bool (begins_slash_star (b ∷ rest))) [
       | inl s ↦ sign_token p mode st ln a f b rest o h alike s look

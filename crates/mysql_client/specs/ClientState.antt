@@ -3,9 +3,9 @@
 use Rattle.std.specs.Prelude.{ℕ, Bool, true, false, not, ◌==◌, ◌&&◌, ◌||◌, if◌then◌else◌, List, [], ◌∷◌, drop, codes, nat_lt, take}
 use Rattle.std.specs.List.{list_all}
 use Rattle.std.specs.Str.{byte}
-use Rattle.mysql_named_params.specs.Bytes.{asterisk, backquote, carriage_return, dash, dollar, exclamation_mark, hash, newline, plus, question_mark, slash, is_string_quote, begins}
+use Rattle.mysql_named_params.specs.Bytes.{asterisk, backquote, carriage_return, dash, dollar, exclamation_mark, hash, newline, plus, slash, is_string_quote, begins}
 use Rattle.mysql_portable.specs.ServerTokens.{is_tag_byte}
-use Rattle.mysql_portable.specs.FoundInClient.{letter_of, begins_word, ends_word, is_word_of_mariadb}
+use Rattle.mysql_portable.specs.FoundInClient.{letter_of, begins_word, is_word_of_mariadb}
 use Rattle.mysql_client.specs.Outgoing.{Outgoing, is_space, is_empty}
 
 -- the clients: `mysql` 9, and `mariadb` 10.11 and 11.8
@@ -80,16 +80,11 @@ abbrev pub begins_delimiter : Program → List ℕ → Bool
 begins_delimiter p text =
     begins_word (codes "delimiter") text && (is_mariadb p || begins_in_ascii text)
 
--- this byte before this text is a word of MariaDB's client, with `?`
-abbrev pub is_mariadb_word : ℕ → List ℕ → Bool
-is_mariadb_word b rest =
-    if b == question_mark then ends_word rest else is_word_of_mariadb (letter_of b) rest
-
 -- This byte before this text is a word of the client. `mysql` knows only `delimiter`, without
 -- `--commands`.
 abbrev pub is_own_word : Program → ℕ → List ℕ → Bool
 is_own_word p b rest =
-    begins_delimiter p (b ∷ rest) || (is_mariadb_word b rest && is_mariadb p)
+    begins_delimiter p (b ∷ rest) || (is_word_of_mariadb (letter_of b) rest && is_mariadb p)
 
 -- after `$`: the rest of `$$` or `$tag$`
 abbrev pub ends_tag : List ℕ → Bool

@@ -1,5 +1,5 @@
 -- Texts of which a client doesn't send the statements as they are.
-use Rattle.std.specs.Prelude.{◌≡◌, ◌≢◌, ℕ, IsFalse, false, List, Some, None}
+use Rattle.std.specs.Prelude.{◌≡◌, ◌≢◌, ℕ, false, List, Some}
 use Rattle.mysql_sql_text.specs.StringUnits.{with_backslashes}
 use Rattle.mysql_named_params.specs.Tokens.{Token}
 use Rattle.mysql_named_params.specs.TokensOf.{tokens_of}
@@ -7,7 +7,7 @@ use Rattle.mysql_portable.specs.FirstUnportableInClient.{first_unportable_in_cli
 use Rattle.mysql_portable.specs.declared.portable.Construct.{Construct}
 use Rattle.mysql_client.specs.ClientState.{Program}
 use Rattle.mysql_client.specs.Sends.{Sending, sends}
-use Rattle.mysql_client.specs.SentStatements.{sent_statements, BeginWithNoMark, ends_in_backslash}
+use Rattle.mysql_client.specs.SentStatements.{sent_statements}
 
 -- the statements of a text, each as it is, without a command of the client
 abbrev pub as_it_is : Program → List Token → Sending
@@ -18,19 +18,11 @@ abbrev pub IsSentOtherwise : Program → List ℕ → Type 0
 IsSentOtherwise p text =
     sends p with_backslashes text ≢ as_it_is p (tokens_of with_backslashes text)
 
--- A text with this construct at its front, or at this index, that is sent otherwise. All else that
--- the law `portable_texts_are_sent` asks is so.
+-- a text whose first construct is this one, at this index, and that is sent otherwise
 pub record IsSentOtherwiseBy (p : Program) (text : List ℕ) (construct : Construct) (at : ℕ)
     : Type 0 where
   pub found : first_unportable_in_client (tokens_of with_backslashes text)
       ≡ Some (record { construct = construct; at = at })
-  pub no_mark : BeginWithNoMark (tokens_of with_backslashes text)
-  pub last : IsFalse (ends_in_backslash text)
-  pub otherwise : IsSentOtherwise p text
-
--- a text in which nothing is found, and that is sent otherwise
-pub record IsOverlooked (p : Program) (text : List ℕ) : Type 0 where
-  pub none : first_unportable_in_client (tokens_of with_backslashes text) ≡ None
   pub otherwise : IsSentOtherwise p text
 
 -- the client sends just these statements, in the mode with backslash escapes

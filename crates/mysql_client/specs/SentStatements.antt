@@ -9,12 +9,11 @@
 --   empty lines at its front, nor statements of nothing else.
 -- - A comment of one line after `;` on its line is sent with the statement before it. If it is the
 --   first of a statement, it is sent like a statement.
-use Rattle.std.specs.Prelude.{ℕ, IsFalse, Bool, true, false, ◌==◌, ◌&&◌, ◌||◌, if◌then◌else◌, List, [], ◌∷◌, ◌++◌, drop, ⊤}
+use Rattle.std.specs.Prelude.{ℕ, Bool, true, false, ◌==◌, ◌&&◌, ◌||◌, if◌then◌else◌, List, [], ◌∷◌, ◌++◌, drop}
 use Rattle.std.specs.Str.{byte}
 use Rattle.mysql_named_params.specs.Bytes.{asterisk, colon, dash, hash, newline, plus, question_mark, slash, begins}
 use Rattle.mysql_named_params.specs.Tokens.{Token, text_of, QuotedString, QuotedIdentifier, HashComment, DashComment, BlockComment, Name, Mark, Plain}
 use Rattle.mysql_portable.specs.ServerTokens.{begins_special}
-use Rattle.mysql_portable.specs.FoundInClient.{begins_statement}
 use Rattle.mysql_client.specs.Outgoing.{Outgoing, is_space, is_empty, pass_on, pass_as_is, pass_with_next, owe, send, send_if, end_line}
 use Rattle.mysql_client.specs.ClientState.{Program, is_mariadb, begins_empty_comment, begins_close, begins_block, begins_slash_star}
 use Rattle.mysql_client.specs.Sends.{is_return, nothing_sent, begins_mark}
@@ -175,26 +174,3 @@ sent_from p ts =
 -- the statements of a text of these tokens as the client sends them; a UTF-8 mark isn't sent
 abbrev pub sent_statements : Program → List Token → List (List ℕ)
 sent_statements p ts = sent_from p (if begins_mark (text_of ts) then drop 3 ts else ts)
-
--- ---- texts of which this is what a client sends
-
--- a mark
-abbrev pub is_mark : Token → Bool
-is_mark Mark = true
-is_mark t = false
-
--- no statement begins with a mark, if one may begin before the tokens
-abbrev pub BeginWithNoMarkFrom : Bool → List Token → Type 0
-BeginWithNoMarkFrom statement [] = ⊤
-BeginWithNoMarkFrom statement (t ∷ ts) =
-    IsFalse (is_mark t && statement) × BeginWithNoMarkFrom (begins_statement statement t) ts
-
--- no statement begins with a mark
-abbrev pub BeginWithNoMark : List Token → Type 0
-BeginWithNoMark = BeginWithNoMarkFrom true
-
--- the text ends with a backslash
-abbrev pub ends_in_backslash : List ℕ → Bool
-ends_in_backslash [] = false
-ends_in_backslash (b ∷ []) = b == byte "\\"
-ends_in_backslash (b ∷ c ∷ bs) = ends_in_backslash (c ∷ bs)

@@ -20,7 +20,7 @@ use Rattle.mysql_binding.proofs.BoundStatementLemmas.{StayWithin, StayWithin-app
 use Rattle.mysql_binding.proofs.LiteralTokenLemmas.{AreSettledBefore, AreSettledBefore-append, no_double, plain_tokens, other, plain_text, plain_places, is_alphanumeric-plain, alphanumeric_portable, alphanumeric_single, is_alphanumeric}
 use Rattle.mysql_sql_text.specs.InLine.{is_in_line}
 use Rattle.mysql_binding.proofs.SentLiteralLemmas.{no_zero, quotes_found}
-use Rattle.mysql_binding.proofs.SentTextLemmas.{AreSentBefore, statement_after, line_after}
+use Rattle.mysql_binding.proofs.SentTextLemmas.{AreSentExceptMarksBefore, statement_after, line_after}
 use Rattle.std.proofs.lemmas.List.Folds.{list_all-append}
 use Rattle.mysql_binding.proofs.UpToSpliceLemmas.{joins_nothing, opens_nothing_after}
 use Rattle.mysql_fragments.specs.FragmentFaults.{escapes_end, is_keyword, is_keyword_from}
@@ -74,7 +74,7 @@ pub record IsQuotedRun (mode : Bool) (run name : List ℕ) (list : List Token) :
   pub run_settled : (rest : List ℕ) → AreSettledBefore rest list
   pub run_within : StayWithin list
   pub run_sent : list_all is_in_line (run ++ name) ≡ true → (rest : List ℕ) (statement line : Bool) →
-      AreSentBefore rest statement line list
+      AreSentExceptMarksBefore rest statement line list
   pub run_statement : (statement : Bool) → statement_after statement list ≡ false
   pub run_line : (line : Bool) → line_after line list ≡ false
   pub run_places : place_count list ≡ 0
@@ -107,7 +107,7 @@ identifier_found : (run rest : List ℕ) (statement line : Bool) → list_all is
     found_in_client statement line (QuotedIdentifier (run ++ backquote ∷ [])) rest ≡ None
 identifier_found run rest statement line k =
     let t : list_all is_in_line (run ++ backquote ∷ []) ≡ true = list_all-append is_in_line run (backquote ∷ []) ∙ and_from _ _ k refl in
-    rw (no_zero (run ++ backquote ∷ []) t) (quotes_found (run ++ backquote ∷ []) t)
+    rw (no_zero (run ++ backquote ∷ []) t) (quotes_found run backquote refl t)
 
 pub quoted_run : (mode : Bool) (run name : List ℕ) → list_all not_quote run ≡ true → escapes_end (run ++ name) ≡ false →
     IsQuotedRun mode run name (identifier_tokens run name)

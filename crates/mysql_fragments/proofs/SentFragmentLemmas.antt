@@ -1,22 +1,21 @@
 -- A client sends a fragment whose text is in one line as it is, if it begins with no keyword or
 -- isn't the first of a list.
-use Rattle.std.specs.Prelude.{Bool, codes, nat_lt}
-use Rattle.std.proofs.Common.{◌≡◌, ◌++◌, ◌==◌, not, ℕ, true, false, List, [], ◌∷◌, None, arith, inl, inr, refl, ap, ◌∙◌, sym, subst, true≢false}
+use Rattle.std.specs.Prelude.{Bool, codes, nat_le, nat_lt}
+use Rattle.std.proofs.Common.{◌≡◌, ◌++◌, ◌==◌, ◌&&◌, ◌||◌, not, ℕ, true, false, List, [], ◌∷◌, None, arith, inl, inr, refl, ap, ◌∙◌, sym, subst, true≢false}
 use Rattle.std.specs.Char.{is_ascii_alphabetic, to_ascii_lowercase}
 use Rattle.std.specs.List.{list_all}
 use Rattle.std.specs.Str.{byte}
 use Rattle.std.proofs.lemmas.Bool.{and_parts, and_from, cases_Bool}
 use Rattle.std.proofs.lemmas.Bool.Decides.{nat_tests}
 use Rattle.mysql_sql_text.specs.LiteralShape.{AreDigits}
-use Rattle.mysql_named_params.specs.Bytes.{asterisk, newline, slash, backquote, dash, point}
+use Rattle.mysql_named_params.specs.Bytes.{asterisk, newline, slash, backquote, dash, point, underscore}
 use Rattle.mysql_named_params.specs.Tokens.{IsToken, Mark, Plain}
 use Rattle.mysql_named_params.proofs.TokenEnds.{plain_at}
-use Rattle.mysql_portable.specs.FoundInClient.{begins_statement, begins_line, begins_no_word, found_in_client, is_client_word, letter_of}
+use Rattle.mysql_portable.specs.FoundInClient.{begins_statement, begins_line, begins_no_word, found_in_client, is_client_word}
 use Rattle.mysql_portable.proofs.OtherModeLemmas.{all_parts}
 use Rattle.mysql_binding.proofs.LiteralTokenLemmas.{other, AreDigits-alphanumeric}
 use Rattle.mysql_sql_text.specs.InLine.{is_in_line}
 use Rattle.mysql_binding.proofs.SentLiteralLemmas.{and_none, SentPart, SentText, both_parts, digits_text, front_and_part, literal_sent, minus_text, part_of, run_part}
-use Rattle.mysql_portable.proofs.ClientWordLemmas.{is_word_letter}
 use Rattle.mysql_binding.proofs.SentTextLemmas.{is_sent_first, no_word_found}
 use Rattle.mysql_float_literal.specs.DoubleShape.{IsSign, no_sign, minus_sign, IsFraction, no_fraction, point_and_digits, IsDouble, double_shape}
 use Rattle.mysql_fragments.specs.FragmentFaults.{escapes_end, is_keyword}
@@ -107,7 +106,7 @@ mark_text mode = record {
   list_text = refl;
   list_each = λ rest. (tt, tt);
   list_front = λ rest. refl;
-  list_sent = λ rest statement line. (refl, tt);
+  list_sent = λ rest statement line. tt;
   list_statement = λ statement. refl;
   list_line = λ line. refl;
 }
@@ -193,15 +192,16 @@ fragment_part mode (row_fragment n inner a) k =
 alphabetic_below : (b : ℕ) → is_ascii_alphabetic b ≡ true → nat_lt b 192 ≡ true
 alphabetic_below b h = grind (arith, nat_tests)
 
-alphabetic_letter : (b : ℕ) → is_ascii_alphabetic b ≡ true → is_word_letter (to_ascii_lowercase b) ≡ true
+alphabetic_letter : (b : ℕ) → is_ascii_alphabetic b ≡ true →
+    ((nat_le (byte "a") (to_ascii_lowercase b) && nat_le (to_ascii_lowercase b) (byte "z")) || to_ascii_lowercase b == underscore) ≡ true
 alphabetic_letter b h = grind (arith, nat_tests)
 
 keyword_begins : (text : List ℕ) → is_keyword text ≡ true → begins_no_word_of_client text ≡ true → ⊥
 keyword_begins [] h k = true≢false (sym h)
 keyword_begins (b ∷ bytes) h k =
     let a = keyword_first b bytes h in
-    let t : is_word_letter (letter_of b) ≡ true = rw (alphabetic_below b a) (alphabetic_letter b a) in
-    true≢false (sym k ∙ ap not t)
+    let t : begins_no_word_of_client (b ∷ bytes) ≡ false = rw (alphabetic_below b a) (ap not (alphabetic_letter b a)) in
+    true≢false (sym k ∙ t)
 
 first_of_front : (mode : Bool) {n : ℕ} {first : List ℕ} (more : List ℕ) → IsFragment mode n first →
     begins_no_word_of_client (first ++ more) ≡ true → begins_no_word_of_client first ≡ true

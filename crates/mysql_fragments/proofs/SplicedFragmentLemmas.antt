@@ -16,7 +16,7 @@ use Rattle.mysql_named_params.proofs.WideLemmas.{start_wide}
 use Rattle.mysql_portable.specs.Portable.{AreReadAlikeBefore, IsReadAs}
 use Rattle.mysql_portable.specs.Quiet.{IsHonest, DecidesWithin}
 use Rattle.mysql_portable.specs.Server.{Server, IsReadOn}
-use Rattle.mysql_portable.specs.FirstUnportableInClient.{AreSentAsTheyAre}
+use Rattle.mysql_portable.specs.FirstUnportableInClient.{AreSentExceptMarks}
 use Rattle.mysql_binding.specs.Pieces.{pieces, joined_text}
 use Rattle.mysql_binding.specs.Replaced.{AreTokensOf, with_literal_tokens}
 use Rattle.mysql_binding.specs.StandsAlone.{may_stand_before, none_or_last, first_not_alone, first_not_alone_from}
@@ -99,7 +99,7 @@ module _ (mode : Bool) (text : List ℕ) (ts : List Token) (counts : List ℕ) (
   settled = alone IsSettled ts lists (each_list mode (HoldsAlone IsSettled) (λ n text list f. λ before rest b r. f.list_settled rest r) counts texts lists s a) as_many n
 
   module _ (query : List ℕ) (h : IsTokens mode query ts) where
-    pub fragments_are_sent : AreInLine texts → BeginNoWords texts → AreSentAsTheyAre ts → AreSentAsTheyAre (with_literal_tokens ts lists)
+    pub fragments_are_sent : AreInLine texts → BeginNoWords texts → AreSentExceptMarks ts → AreSentExceptMarks (with_literal_tokens ts lists)
     fragments_are_sent k w o =
         spliced_sent mode space ts lists true true h.each (alone IsSentAt ts lists (fragments_sent_each mode counts texts lists s k w a) as_many n) o
 

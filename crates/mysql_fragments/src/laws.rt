@@ -12,7 +12,7 @@ ghost use Rattle.mysql_portable.specs.Portable.{AreReadAlike, AreReadAlikeBefore
 ghost use Rattle.mysql_portable.specs.Quiet.{IsHonest, DecidesWithin};
 ghost use Rattle.mysql_portable.specs.Server.{Server, IsReadOn};
 ghost use Rattle.mysql_portable.specs.Client.{Client, IsReadBy, HoldNoOpener};
-ghost use Rattle.mysql_portable.specs.FirstUnportableInClient.{AreSentAsTheyAre, IsPortableInClient};
+ghost use Rattle.mysql_portable.specs.FirstUnportableInClient.{AreSentExceptMarks, IsPortableInClient};
 ghost use Rattle.mysql_portable.specs.Statements.{statements};
 ghost use Rattle.mysql_params_core.specs.Given.{Given};
 ghost use Rattle.mysql_params_core.specs.Lookup.{lookup};
@@ -174,14 +174,15 @@ pub fn bound_fragments_on_servers()
 }
 
 /// If a query has none of the constructs of a client, and no fragment has a byte 0 or a newline or
-/// begins with a letter, as keywords do, the text has none of these constructs either.
+/// begins with a letter, as keywords do, the text has none of these constructs either. A mark may
+/// be one in both: values replace it.
 pub fn fragments_are_sent()
     ensures { (mode : Bool) (query text : List ℕ) (ts : List Token) (counts : List ℕ)
         (texts : List (List ℕ)) (lists : List (List Token)) → IsTokens mode query ts →
-        AreSentAsTheyAre ts → first_not_alone ts ≡ None → AreFragments mode counts texts →
+        AreSentExceptMarks ts → first_not_alone ts ≡ None → AreFragments mode counts texts →
         AreInLine texts → BeginNoWords texts → AreTokensOf mode texts lists →
         joined_text (pieces ts) texts ≡ Some text →
-        AreSentAsTheyAre (with_literal_tokens ts lists) }
+        AreSentExceptMarks (with_literal_tokens ts lists) }
 {}
 
 /// If no block comment of a portable query holds `/*!`, `/*+` or `/*/`, a client that keeps

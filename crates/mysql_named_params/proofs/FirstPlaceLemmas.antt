@@ -64,7 +64,7 @@ place_count-other Mark e = cc
 place_count-other t e = refl
 
 -- the first token of a row
-next_token : (mode : Bool) (back : List Token) (rest : List ℕ) (k : TokenKind) (n : ℕ) →
+pub next_token : (mode : Bool) (back : List Token) (rest : List ℕ) (k : TokenKind) (n : ℕ) →
     AreTokensBefore mode [] back → text_of back ≡ rest → (f : IsFirstToken mode rest k n) →
     (ts : List Token) × (back ≡ f.token ∷ ts) × (text_of ts ≡ drop n rest)
 next_token mode [] rest k n h e f = absurd (some_byte f.token (drop n rest) (f.bytes ∙ sym e))

@@ -25,7 +25,7 @@ use Rattle.mysql_named_params.proofs.WideLemmas.{goes_on, opens, stays, plain_ca
 
 -- ---- names in lower case
 
-lower_start : (b : ℕ) → is_wide_start b ≡ true → is_start_byte (to_ascii_lowercase b) ≡ true
+pub lower_start : (b : ℕ) → is_wide_start b ≡ true → is_start_byte (to_ascii_lowercase b) ≡ true
 lower_start b h = grind (arith, nat_tests)
 
 lower_byte : (b : ℕ) → is_wide_byte b ≡ true → is_name_byte (to_ascii_lowercase b) ≡ true

@@ -62,7 +62,7 @@ run_left (Plain b ∷ ts) = elim (cases_Bool (is_wide_byte b)) [
 ]
 run_left (t ∷ ts) = refl
 
-begins_wide_is : (mode : Bool) (ts : List Token) → AreTokensBefore mode [] ts →
+pub begins_wide_is : (mode : Bool) (ts : List Token) → AreTokensBefore mode [] ts →
     begins is_wide_start (text_of ts) ≡ begins_wide ts
 begins_wide_is mode [] h = refl
 begins_wide_is mode (QuotedString q tail ∷ ts) h = quote_is is_wide_start q h.0.0 refl refl

@@ -5,7 +5,7 @@ use Rattle.std.specs.List.{list_all, list_any}
 use Rattle.std.specs.Str.{byte}
 use Rattle.std.proofs.lemmas.Bool.Decides.{nat_tests}
 use Rattle.std.proofs.lemmas.Bool.{and_parts, or_parts, not-true}
-use Rattle.mysql_named_params.specs.Bytes.{asterisk, backquote, dash, hash, newline, slash, space, begins}
+use Rattle.mysql_named_params.specs.Bytes.{asterisk, backquote, dash, hash, newline, question_mark, slash, space, begins}
 use Rattle.mysql_named_params.specs.Tokens.{Token, bytes_of, text_of, OnTokens, QuotedString, QuotedIdentifier, HashComment, DashComment, BlockComment, Name, Mark, Plain}
 use Rattle.mysql_named_params.proofs.TokensExistLemmas.{tokens_exist}
 use Rattle.mysql_portable.specs.Clear.{begins_client_line, begins_opener_after, is_in_doubt, is_in_doubt_for, is_in_doubt_in_client, is_clear_after, is_clear_in_client}
@@ -143,7 +143,7 @@ other letter k h above = grind (arith, nat_tests)
 white_is_no_word : (letter : ℕ) (rest : List ℕ) → nat_le letter space ≡ true → is_client_word letter rest ≡ false
 unfolding is_client_word
 white_is_no_word letter rest h =
-    rw (other letter (byte "c") h refl, other letter (byte "e") h refl, other letter (byte "g") h refl, other letter (byte "h") h refl, other letter (byte "n") h refl, other letter (byte "p") h refl, other letter (byte "q") h refl, other letter (byte "r") h refl, other letter (byte "s") h refl, other letter (byte "t") h refl, other letter (byte "u") h refl, other letter (byte "w") h refl) refl
+    rw (other letter (byte "c") h refl, other letter (byte "e") h refl, other letter (byte "g") h refl, other letter (byte "h") h refl, other letter (byte "n") h refl, other letter (byte "p") h refl, other letter (byte "q") h refl, other letter (byte "r") h refl, other letter (byte "s") h refl, other letter (byte "t") h refl, other letter (byte "u") h refl, other letter (byte "w") h refl, other letter question_mark h refl) refl
 
 -- at the front of a statement
 record NoLine (b : ℕ) (rest : List ℕ) : Type 0 where
@@ -201,7 +201,7 @@ in_token (BlockComment tail) rest before s l h front =
     let first = step before slash (asterisk ∷ (tail ++ rest)) h in
     in_comment tail rest asterisk ((step slash asterisk (tail ++ rest) first.2).2)
 in_token (Name name) rest before s l h front = refl
-in_token Mark rest before s l h front = refl
+in_token Mark rest before s l h front = at_byte before question_mark rest s l h front
 in_token (Plain b) rest before s l h front = at_byte before b rest s l h front
 
 in_client : (t : Token) (rest : List ℕ) (before : ℕ) (s l : Bool) → is_clear_after true before (bytes_of t ++ rest) ≡ true →

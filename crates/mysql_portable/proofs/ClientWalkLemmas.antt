@@ -68,7 +68,7 @@ bytes_are s l mode (DashComment gap tail) rest h = refl
 bytes_are s l mode (BlockComment tail) rest h = refl
 bytes_are s l mode (Name []) rest h = absurd h.0
 bytes_are s l mode (Name (b ∷ bs)) rest h = refl
-bytes_are s l mode Mark rest h = nothing s l
+bytes_are s l mode Mark rest h = refl
 bytes_are s l mode (Plain b) rest h = refl
 
 pub statement_is : (before mode : Bool) (t : Token) (rest : List ℕ) → IsToken mode t rest →

@@ -1,15 +1,15 @@
 -- A word of a client is known by its letters: two texts that begin with the same whole words begin
 -- with the same words of a client.
 use Rattle.std.specs.Prelude.{Bool, codes, nat_le}
-use Rattle.std.proofs.Common.{◌≡◌, ◌==◌, ◌&&◌, ◌||◌, ◌∙◌, ℕ, true, List, if◌then◌else◌, refl, ap}
+use Rattle.std.proofs.Common.{◌≡◌, ◌==◌, ◌&&◌, ◌||◌, ◌∙◌, ℕ, true, List, [], if◌then◌else◌, refl, ap}
 use Rattle.std.specs.List.{list_all}
 use Rattle.std.specs.Str.{byte}
-use Rattle.mysql_named_params.specs.Bytes.{underscore}
+use Rattle.mysql_named_params.specs.Bytes.{question_mark, underscore}
 use Rattle.mysql_portable.specs.FoundInClient.{begins_whole_word, is_client_word, is_word_of_mariadb, is_word_of_mysql}
 
--- a byte of the clients' words, which are in lower case
+-- a byte of the clients' words, which are in lower case, or `?`
 abbrev pub is_word_letter : ℕ → Bool
-is_word_letter b = (nat_le (byte "a") b && nat_le b (byte "z")) || b == underscore
+is_word_letter b = (nat_le (byte "a") b && nat_le b (byte "z")) || (b == underscore || b == question_mark)
 
 either : {a a' b b' : Bool} → a ≡ a' → b ≡ b' → (a || b) ≡ (a' || b')
 either {a' = a'} {b = b} e g = ap (λ z. z || b) e ∙ ap (λ z. a' || z) g
@@ -31,7 +31,7 @@ module _ (x y : List ℕ) (same : (word : List ℕ) → list_all is_word_letter 
       (choice (letter == byte "s") (either (same (codes "andbox") refl) (either (same (codes "ource") refl) (either (same (codes "tatus") refl) (same (codes "ystem") refl))))
       (choice (letter == byte "t") (same (codes "ee") refl)
       (choice (letter == byte "u") (same (codes "se") refl)
-      (choice (letter == byte "w") (same (codes "arnings") refl) refl)))))))))))
+      (choice (letter == byte "w") (same (codes "arnings") refl) (ap (λ z. letter == question_mark && z) (same [] refl)))))))))))))
 
   mysql_same : (letter : ℕ) → is_word_of_mysql letter x ≡ is_word_of_mysql letter y
   mysql_same letter =

@@ -17,7 +17,7 @@ use Rattle.mysql_named_params.specs.WideNames.{is_wide_start, widened}
 use Rattle.mysql_named_params.specs.WidePlaces.{opens_wide_name, wide_len}
 use Rattle.mysql_named_params.specs.declared.tokens.TokenKind.{TokenKind}
 use Rattle.mysql_named_params.specs.declared.tokens.TokenKind.TheVariants as kind
-use Rattle.mysql_named_params.proofs.FirstPlaceLemmas.{plain_token}
+use Rattle.mysql_named_params.proofs.FirstPlaceLemmas.{next_token, plain_token}
 use Rattle.mysql_named_params.proofs.LoweredLemmas.{lowered_tokens}
 use Rattle.mysql_named_params.proofs.TokenEndLemmas.{slice_from}
 use Rattle.mysql_named_params.proofs.TokenListLemmas.{some_byte}
@@ -45,7 +45,7 @@ use Rattle.mysql_portable.proofs.FrontLemmas.{passes, unportable_at}
 use Rattle.mysql_portable.proofs.NoConstructClientLemmas.{no_line, no_statement, nothing_at}
 use Rattle.mysql_portable.proofs.NoConstructLemmas.{no_construct-not, no_construct_after}
 use Rattle.mysql_portable.proofs.WideFrontLemmas.{front_alike, same_by_start, wide_of_start}
-use Rattle.mysql_portable.proofs.WideWalkLemmas.{low, lower_other, next_token, no_construct_by, opens_none, sign_after}
+use Rattle.mysql_portable.proofs.WideWalkLemmas.{low, lower_other, no_construct_by, opens_none, sign_after}
 
 -- ---- a token
 
@@ -130,7 +130,7 @@ module _ (x y : List ℕ) (r : SameByStart is_wide_start x y) (a : AreLower x y)
   found_alike mode (DashComment gap tail) h k = refl
   found_alike mode (BlockComment tail) h k = rw (first is_wide_start r is_joined) refl
   found_alike mode (Name bytes) h k = absurd (k refl)
-  found_alike mode Mark h k = refl
+  found_alike mode Mark h k = sym (word_alike question_mark)
   found_alike mode (Plain b) h k = plain_found b (cases_Bool (b == dash))
 
   -- what is found at the front of the first text is found in the token in the second

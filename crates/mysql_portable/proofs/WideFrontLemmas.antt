@@ -1,7 +1,7 @@
 -- The construct at the front of a query with wide names is that of the query with its names in
 -- lower case.
 use Rattle.std.specs.Prelude.{Bool}
-use Rattle.std.specs.Char.{is_ascii_digit, to_ascii_lowercase}
+use Rattle.std.specs.Char.{is_ascii_digit}
 use Rattle.std.proofs.Common.{◌≡◌, ◌≢◌, ◌⊎◌, ℕ, ◌==◌, ◌&&◌, ◌||◌, true, false, List, [], ◌∷◌, ◌++◌, length, None, refl, sym, ap, ◌∙◌, subst, inl, inr, arith, true≢false}
 use Rattle.std.proofs.lemmas.Bool.{and_right, cases_Bool, eqb-true, or_cases, or_parts}
 use Rattle.std.proofs.lemmas.Bool.Decides.{nat_tests}
@@ -12,18 +12,17 @@ use Rattle.mysql_named_params.specs.Tokens.{Token, AreTokensBefore, IsToken, byt
 use Rattle.mysql_named_params.specs.TokensOf.{block_comment}
 use Rattle.mysql_named_params.specs.WideNames.{begins_wide, is_wide_start, run, widened, widened_from}
 use Rattle.mysql_named_params.specs.declared.tokens.TokenKind.TheVariants as kind
+use Rattle.mysql_named_params.proofs.LoweredLemmas.{lower_start}
 use Rattle.mysql_named_params.proofs.PlainLemmas.{plain_none}
 use Rattle.mysql_named_params.proofs.RestLemmas.{block_none}
 use Rattle.mysql_named_params.proofs.WideLemmas.{goes_on, opens, stays, plain_case, run_wide, start_wide}
+use Rattle.mysql_named_params.proofs.WidePlaceLemmas.{begins_wide_is}
 use Rattle.mysql_portable.specs.ByStart.{front_construct_by}
 use Rattle.mysql_portable.specs.FrontConstruct.{front_construct}
 use Rattle.mysql_portable.proofs.ByStartLemmas.{SameByStart, ends, same, name, stop, dashes, block, first, comment_block, exponent, fraction, line, plain_block, tag}
 use Rattle.mysql_portable.proofs.FrontLemmas.{block_front, byte_construct, front_is, slash_block, unportable_at}
 
 -- ---- the two texts
-
-lower_start : (b : ℕ) → is_wide_start b ≡ true → is_start_byte (to_ascii_lowercase b) ≡ true
-lower_start b h = grind (arith, nat_tests)
 
 pub wide_of_start : (b : ℕ) → is_start_byte b ≡ true → is_wide_start b ≡ true
 wide_of_start b h = rw h refl
@@ -33,15 +32,6 @@ quote_stops q h = rw h refl
 
 white_no_dash : (gap : ℕ) → is_white_space gap ≡ true → (gap == dash) ≡ false
 white_no_dash gap h = grind (arith, nat_tests)
-
-quote_no_start : (q : ℕ) → is_string_quote q ≡ true → is_wide_start q ≡ false
-quote_no_start q h = grind (arith, nat_tests)
-
-begins_wide_is : (mode : Bool) (ts : List Token) → AreTokensBefore mode [] ts →
-    begins is_wide_start (text_of ts) ≡ begins_wide ts
-begins_wide_is mode [] h = refl
-begins_wide_is mode (QuotedString q tail ∷ ts) h = quote_no_start q h.0.0
-begins_wide_is mode (t ∷ ts) h = refl
 
 -- no name begins with the byte in lower case, if none begins with it as it is
 no_start : (b : ℕ) (x y : List ℕ) → begins is_start_byte x ≡ begins is_start_byte y →

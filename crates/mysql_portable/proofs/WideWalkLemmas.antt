@@ -18,10 +18,10 @@ use Rattle.mysql_named_params.specs.WidePlaces.{opens_wide_name, wide_len}
 use Rattle.mysql_named_params.specs.declared.places.Reading.{Reading}
 use Rattle.mysql_named_params.specs.declared.tokens.TokenKind.{TokenKind}
 use Rattle.mysql_named_params.specs.declared.tokens.TokenKind.TheVariants as kind
-use Rattle.mysql_named_params.proofs.FirstPlaceLemmas.{plain_token}
+use Rattle.mysql_named_params.proofs.FirstPlaceLemmas.{next_token, plain_token}
 use Rattle.mysql_named_params.proofs.LoweredLemmas.{lowered_tokens}
 use Rattle.mysql_named_params.proofs.TokenEndLemmas.{slice_from}
-use Rattle.mysql_named_params.proofs.TokenListLemmas.{one_token, some_byte}
+use Rattle.mysql_named_params.proofs.TokenListLemmas.{some_byte}
 use Rattle.mysql_named_params.proofs.TokenRowLemmas.{text_of-append}
 use Rattle.mysql_named_params.proofs.TokensExistLemmas.{tokens_exist}
 use Rattle.mysql_named_params.proofs.WidePlaceLemmas.{opened, not_opened}
@@ -74,16 +74,6 @@ wide_walked_none mode query =
 pub lower_other : (t : Token) (us : List Token) → kind_of t ≢ kind.Name → lower_names (t ∷ us) ≡ t ∷ lower_names us
 lower_other (Name name) us n = absurd (n refl)
 lower_other t us n = refl
-
--- the first token of a row
-pub next_token : (mode : Bool) (back : List Token) (rest : List ℕ) (k : TokenKind) (n : ℕ) →
-    AreTokensBefore mode [] back → text_of back ≡ rest → (f : IsFirstToken mode rest k n) →
-    (ts : List Token) × (back ≡ f.token ∷ ts) × (text_of ts ≡ drop n rest)
-next_token mode [] rest k n h e f = absurd (some_byte f.token (drop n rest) (f.bytes ∙ sym e))
-next_token mode (t ∷ ts) rest k n h e f =
-    let same : t ≡ f.token = one_token mode t f.token (text_of ts) (drop n rest) h.0 f.holds (e ∙ sym f.bytes) in
-    let after : drop n rest ≡ text_of ts = ap (drop n) (sym e) ∙ drop_at (bytes_of t) (text_of ts) n (ap (λ x. length (bytes_of x)) same ∙ f.len_is) in
-    (ts, ap (λ x. x ∷ ts) same, sym after)
 
 -- one token more, which is in front of the rest in lower case
 more : (mode : Bool) (query rest after : List ℕ) (w : WideWalked mode query rest) (t : Token) (left : List Token) →

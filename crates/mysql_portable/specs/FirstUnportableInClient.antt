@@ -1,7 +1,7 @@
 -- The first construct for which a query isn't portable on servers, or for which a client that keeps
 -- comments sends something else: its kind and its position.
-use Rattle.std.specs.Prelude.{◌≡◌, ◌+◌, ◌&&◌, not, ℕ, Bool, true, List, [], ◌∷◌, if◌then◌else◌, length, Option, Some, None, ⊤}
-use Rattle.mysql_named_params.specs.Tokens.{Token, bytes_of, text_of}
+use Rattle.std.specs.Prelude.{◌≡◌, ◌+◌, ◌&&◌, not, ℕ, Bool, true, false, List, [], ◌∷◌, if◌then◌else◌, length, Option, Some, None, ⊤}
+use Rattle.mysql_named_params.specs.Tokens.{Token, bytes_of, text_of, Mark}
 use Rattle.mysql_portable.specs.Portable.{is_read_alike, joins_number, IsPortable}
 use Rattle.mysql_portable.specs.Client.{HoldNoOpener}
 use Rattle.mysql_portable.specs.FirstUnportable.{construct_at}
@@ -43,6 +43,18 @@ AreSentAsTheyAreFrom statement line (t ∷ ts) =
 -- nothing is found in the tokens of a query for the client
 abbrev pub AreSentAsTheyAre : List Token → Type 0
 AreSentAsTheyAre = AreSentAsTheyAreFrom true true
+
+-- the same, except at marks
+abbrev pub AreSentExceptMarksFrom : Bool → Bool → List Token → Type 0
+AreSentExceptMarksFrom statement line [] = ⊤
+AreSentExceptMarksFrom statement line (Mark ∷ ts) = AreSentExceptMarksFrom false false ts
+AreSentExceptMarksFrom statement line (t ∷ ts) =
+    (found_in_client statement line t (text_of ts) ≡ None)
+    × AreSentExceptMarksFrom (begins_statement statement t) (begins_line line t) ts
+
+-- nothing is found in the tokens of a query for the client, except at marks
+abbrev pub AreSentExceptMarks : List Token → Type 0
+AreSentExceptMarks = AreSentExceptMarksFrom true true
 
 -- the query of these tokens is portable on servers and in a client that keeps comments
 pub record IsPortableInClient (ts : List Token) : Type 0 where

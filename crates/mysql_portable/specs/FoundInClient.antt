@@ -6,8 +6,8 @@ use Rattle.std.specs.Prelude.{ℕ, Bool, true, false, not, ◌==◌, ◌&&◌, �
 use Rattle.std.specs.List.{list_any}
 use Rattle.std.specs.Char.{to_ascii_lowercase}
 use Rattle.std.specs.Str.{byte}
-use Rattle.mysql_named_params.specs.Bytes.{asterisk, carriage_return, dash, hash, newline, slash, space, is_white_space, begins}
-use Rattle.mysql_named_params.specs.Tokens.{Token, bytes_of, QuotedString, QuotedIdentifier, HashComment, DashComment, BlockComment, Plain}
+use Rattle.mysql_named_params.specs.Bytes.{asterisk, carriage_return, dash, hash, newline, question_mark, slash, space, is_white_space, begins}
+use Rattle.mysql_named_params.specs.Tokens.{Token, bytes_of, QuotedString, QuotedIdentifier, HashComment, DashComment, BlockComment, Mark, Plain}
 use Rattle.mysql_portable.specs.ServerTokens.{begins_place, begins_special}
 use Rattle.mysql_portable.specs.Client.{holds_opener}
 use Rattle.mysql_portable.specs.declared.portable.Construct.{Construct}
@@ -85,7 +85,7 @@ begins_whole_word word text = begins_word word text && ends_word (drop (length w
 -- This lower-case letter followed by this text begins with a word that MariaDB's client runs
 -- itself: `charset`, `clear`, `connect`, `costs`, `edit`, `ego`, `exit`, `go`, `help`, `nopager`,
 -- `notee`, `nowarning`, `pager`, `print`, `prompt`, `quit`, `rehash`, `sandbox`, `source`,
--- `status`, `system`, `tee`, `use`, `warnings`.
+-- `status`, `system`, `tee`, `use`, `warnings`. Or it is `?`, another word for `help`.
 abbrev pub is_word_of_mariadb : ℕ → List ℕ → Bool
 is_word_of_mariadb letter rest =
     if letter == byte "c"
@@ -117,7 +117,7 @@ is_word_of_mariadb letter rest =
     else if letter == byte "t" then begins_whole_word (codes "ee") rest
     else if letter == byte "u" then begins_whole_word (codes "se") rest
     else if letter == byte "w" then begins_whole_word (codes "arnings") rest
-    else false
+    else letter == question_mark && ends_word rest
 
 -- This lower-case letter followed by this text begins with a word that only MySQL's client runs
 -- itself, with `--commands`: `query_attributes`, `resetconnection`, `ssl_session_data_print`.
@@ -168,12 +168,12 @@ abbrev pub stand_before_comment : List ℕ → Bool
 stand_before_comment [] = false
 stand_before_comment (b ∷ bs) = b == dash && begins_comment bs
 
--- after a backslash: the end of a line
+-- after a backslash: the end of a line, or of the text
 abbrev pub ends_line : List ℕ → Bool
-ends_line [] = false
+ends_line [] = true
 ends_line (b ∷ bs) = b == newline || (b == carriage_return && begins (λ c. c == newline) bs)
 
--- a backslash is at the end of a line of the text
+-- a backslash is at the end of a line of the text, or of the text
 abbrev pub escapes_newline : List ℕ → Bool
 escapes_newline [] = false
 escapes_newline (b ∷ bs) = (b == byte "\\" && ends_line bs) || escapes_newline bs
@@ -225,6 +225,7 @@ abbrev pub found_in_token : Bool → Bool → Token → List ℕ → Option Cons
 found_in_token statement line (QuotedString quote tail) rest = found_in_quotes tail
 found_in_token statement line (QuotedIdentifier tail) rest = found_in_quotes tail
 found_in_token statement line (BlockComment tail) rest = found_in_comment tail rest
+found_in_token statement line Mark rest = found_word statement line question_mark rest
 found_in_token statement line (Plain b) rest = found_at_byte statement line b rest
 found_in_token statement line t rest = None
 

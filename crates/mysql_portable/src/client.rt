@@ -211,14 +211,14 @@ pub(crate) fn stand_before_comment(text: &[u8]) -> bool
     }
 }
 
-// Whether the text begins with the end of a line.
+// Whether the text begins with the end of a line, or is empty.
 fn ends_line(text: &[u8]) -> bool
     ensures { result ≡ ends_line text.now }
 {
-    matches!(text, [b'\n', ..] | [b'\r', b'\n', ..])
+    matches!(text, [] | [b'\n', ..] | [b'\r', b'\n', ..])
 }
 
-// Whether a backslash is at the end of a line of the text.
+// Whether a backslash is at the end of a line of the text, or of the text.
 #[inline(always)]
 fn escapes_newline(text: &[u8]) -> bool
     ensures { result ≡ escapes_newline text.now }
@@ -272,6 +272,7 @@ fn is_word_of_mariadb(letter: u8, rest: &[u8]) -> bool
         b't' => begins_whole_word(b"ee", rest),
         b'u' => begins_whole_word(b"se", rest),
         b'w' => begins_whole_word(b"arnings", rest),
+        b'?' => ends_word(rest),
         _ => false,
     }
 }
@@ -338,8 +339,8 @@ fn found_word(statement: bool, line: bool, letter: u8, rest: &[u8]) -> Option<Co
     None
 }
 
-/// The construct that is found in a token of these bytes, before this text. It is inlined, with what
-/// it calls, as it was while it had one caller.
+/// The construct that is found in a token of these bytes, before this text. It is inlined, with
+/// what it calls, as it was while it had one caller.
 #[inline(always)]
 pub(crate) fn found_in_bytes(
     statement: bool,

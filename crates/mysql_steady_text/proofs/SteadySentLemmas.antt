@@ -10,7 +10,7 @@ use Rattle.mysql_named_params.proofs.TokenEnds.{plain_at}
 use Rattle.mysql_portable.specs.Client.{HoldNoOpener}
 use Rattle.mysql_portable.specs.Portable.{AreReadAlikeBefore}
 use Rattle.mysql_portable.specs.FoundInClient.{found_in_client, is_client_word}
-use Rattle.mysql_portable.specs.FirstUnportableInClient.{AreSentAsTheyAre, IsPortableInClient}
+use Rattle.mysql_portable.specs.FirstUnportableInClient.{AreSentAsTheyAre, AreSentExceptMarks, IsPortableInClient}
 use Rattle.mysql_portable.proofs.PlaceTextLemmas.{placeless_join_no_number}
 use Rattle.mysql_portable.proofs.SteadyLemmas.{steady_other}
 use Rattle.mysql_binding.specs.Pieces.{pieces, joined_text}
@@ -19,7 +19,7 @@ use Rattle.mysql_binding.specs.StandsAlone.{first_not_alone}
 use Rattle.mysql_binding.proofs.BoundStatementLemmas.{replaced_no_opener}
 use Rattle.mysql_binding.proofs.PieceLemmas.{joined_text_count}
 use Rattle.mysql_binding.proofs.SentLiteralLemmas.{and_none, SentPart, SentText, both_parts, front_and_part, literal_sent, part_of, quoted_text, run_part, sent_alone}
-use Rattle.mysql_binding.proofs.SentTextLemmas.{is_sent_first, IsSentAt, spliced_sent}
+use Rattle.mysql_binding.proofs.SentTextLemmas.{is_sent_first, IsSentAt, spliced_sent, without_marks}
 use Rattle.mysql_binding.proofs.SpliceLemmas.{Each, HoldsAlone, alone, as_many_lists}
 use Rattle.mysql_steady_text.specs.SteadyShape.{IsSteadyLiteral, bare_literal, introduced_string, introduced_pairs}
 use Rattle.mysql_steady_text.specs.SteadyLiterals.{AreSteadyLiterals}
@@ -73,12 +73,13 @@ each_sent mode (literal ∷ literals) (list ∷ lists) s p a =
     (sent_alone true literal list (steady_sent s.0 p.0) (steady_other mode true literal list s.1 a.0), each_sent mode literals lists s.2 p.1 a.1)
 
 module _ (mode : Bool) (query text : List ℕ) (ts : List Token) (literals : List (List ℕ)) (lists : List (List Token)) (h : IsTokens mode query ts) (n : first_not_alone ts ≡ None) (s : AreSteadyLiterals literals) (p : AreInLine literals) (a : AreTokensOf mode literals lists) (e : joined_text (pieces ts) literals ≡ Some text) where
-  pub steady_text_sent : AreSentAsTheyAre ts → AreSentAsTheyAre (with_literal_tokens ts lists)
+  pub steady_text_sent : AreSentExceptMarks ts → AreSentAsTheyAre (with_literal_tokens ts lists)
   steady_text_sent k =
-      spliced_sent mode space ts lists true true h.each
-      (alone IsSentAt ts lists (each_sent mode literals lists s p a) (as_many_lists mode literals lists a ∙ joined_text_count [] ts literals text e) n) k
+      without_marks (with_literal_tokens ts lists) true true (steady_places mode text ts literals lists n s a e)
+      (spliced_sent mode space ts lists true true h.each
+      (alone IsSentAt ts lists (each_sent mode literals lists s p a) (as_many_lists mode literals lists a ∙ joined_text_count [] ts literals text e) n) k)
 
-  pub steady_text_portable : AreReadAlikeBefore [] ts → HoldNoOpener ts → AreSentAsTheyAre ts → IsPortableInClient (with_literal_tokens ts lists)
+  pub steady_text_portable : AreReadAlikeBefore [] ts → HoldNoOpener ts → AreSentExceptMarks ts → IsPortableInClient (with_literal_tokens ts lists)
   steady_text_portable r o k = record {
     portable = record {
       alike = steady_portable mode text ts literals lists n s a e query h r;

@@ -8,7 +8,7 @@ ghost use Rattle.mysql_portable.specs.Portable.{AreReadAlike, IsReadAs};
 ghost use Rattle.mysql_portable.specs.Server.{Server, IsReadOn};
 ghost use Rattle.mysql_portable.specs.Quiet.{IsHonest, DecidesWithin};
 ghost use Rattle.mysql_portable.specs.Client.{Client, IsReadBy, HoldNoOpener};
-ghost use Rattle.mysql_portable.specs.FirstUnportableInClient.{AreSentAsTheyAre, IsPortableInClient};
+ghost use Rattle.mysql_portable.specs.FirstUnportableInClient.{AreSentAsTheyAre, AreSentExceptMarks, IsPortableInClient};
 ghost use Rattle.mysql_portable.specs.Statements.{statements};
 ghost use Rattle.mysql_portable.specs.Steady.{IsSteady};
 ghost use Rattle.mysql_portable.specs.CharacterSet.{CharacterSet, seen};
@@ -157,19 +157,19 @@ pub fn bound_steady_texts_in_clients()
     steady_texts_in_clients();
 }
 
-/// If a query has none of the constructs of a client, and no literal a newline or a byte 0, the
-/// text has none of these constructs either (`sent`). If the query is also portable in the client,
-/// so is the text (`portable`).
+/// If a query has none of the constructs of a client, except at its marks, and no literal a newline
+/// or a byte 0, the text has none of these constructs (`sent`). If the query is also portable in
+/// the client, so is the text (`portable`).
 pub fn steady_texts_are_sent()
     ensures sent { (mode : Bool) (query text : List ℕ) (ts : List Token)
         (literals : List (List ℕ)) (lists : List (List Token)) → IsTokens mode query ts →
-        AreSentAsTheyAre ts → first_not_alone ts ≡ None → AreSteadyLiterals literals →
+        AreSentExceptMarks ts → first_not_alone ts ≡ None → AreSteadyLiterals literals →
         AreInLine literals → AreTokensOf mode literals lists →
         joined_text (pieces ts) literals ≡ Some text →
         AreSentAsTheyAre (with_literal_tokens ts lists) }
     ensures portable { (mode : Bool) (query text : List ℕ) (ts : List Token)
         (literals : List (List ℕ)) (lists : List (List Token)) → IsTokens mode query ts →
-        AreReadAlike ts → HoldNoOpener ts → AreSentAsTheyAre ts → first_not_alone ts ≡ None →
+        AreReadAlike ts → HoldNoOpener ts → AreSentExceptMarks ts → first_not_alone ts ≡ None →
         AreSteadyLiterals literals → AreInLine literals → AreTokensOf mode literals lists →
         joined_text (pieces ts) literals ≡ Some text →
         IsPortableInClient (with_literal_tokens ts lists) }
@@ -181,7 +181,7 @@ pub fn steady_texts_are_sent()
 pub fn bound_steady_texts_are_sent()
     ensures { (mode : Bool) (query text : List ℕ) (ts : List Token) (given : Given) →
         IsTokens mode query ts → (b : IsSteadyText ts given text) → AreReadAlike ts →
-        HoldNoOpener ts → AreSentAsTheyAre ts →
+        HoldNoOpener ts → AreSentExceptMarks ts →
         IsPortableInClient (with_literal_tokens ts b.literal_tokens) }
 {
     steady_texts_are_sent();

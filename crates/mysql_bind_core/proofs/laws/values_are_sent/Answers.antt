@@ -7,6 +7,7 @@ use Rattle.mysql_portable.specs.FirstUnportableInClient.{IsPortableInClient}
 use Rattle.mysql_params_core.specs.Given.{Given}
 use Rattle.mysql_binding.specs.Replaced.{with_literal_tokens}
 use Rattle.mysql_binding.proofs.BoundSentLemmas.{written_in_line}
+use Rattle.mysql_binding.proofs.SentTextLemmas.{except_marks}
 use Rattle.mysql_steady_text.specs.SteadyLiteral.{steady_literal_of}
 use Rattle.mysql_steady_text.proofs.SteadyClientLemmas.{bound_alone}
 use Rattle.mysql_steady_text.proofs.SteadyTextLemmas.{shapes_in}
@@ -35,7 +36,7 @@ returns c = sent
           b.isolated false,
           subst IsPortableInClient (low_replaced false ts b.literals b.literal_tokens text (b.tokens_of_literals false) b.text_is)
               (c.steady_texts_are_sent.ensures.portable false (text_of (lower_names ts)) text (lower_names ts) b.literals b.literal_tokens
-              (low_tokens false query ts is) p.portable.alike p.no_opener p.sent (low_alone false query ts is (bound_alone ts given text b)) (shapes_in b)
+              (low_tokens false query ts is) p.portable.alike p.no_opener (except_marks (lower_names ts) true true p.sent) (low_alone false query ts is (bound_alone ts given text b)) (shapes_in b)
               (written_in_line steady_literal_of steady_in_line b.values b.literals b.written) (b.tokens_of_literals false)
               (low_joined ts b.literals text b.text_is)),
         )

@@ -16,12 +16,13 @@ use Rattle.mysql_binding.specs.Replaced.{with_literal_tokens}
 use Rattle.mysql_binding.proofs.BoundStatementLemmas.{length-with_literals}
 use Rattle.mysql_steady_text.specs.SteadyText.{IsSteadyText}
 use Rattle.mysql_steady_text.proofs.SteadyClientLemmas.{bound_alone}
+use Rattle.mysql_steady_text.proofs.SteadyTextLemmas.{shapes_in}
 use Rattle.mysql_steady_text.proofs.WideSteadyLemmas.{lowered_steady}
 use Rattle.mysql_fragments.specs.Expanded.{IsExpanded}
 use Rattle.mysql_fragments.specs.FragmentText.{fragment_text}
 use Rattle.mysql_fragments.specs.GivenFragments.{GivenFragments, named}
 use Rattle.mysql_fragments.specs.SteadyFragments.{IsSteadyFragments}
-use Rattle.mysql_fragments.proofs.ExpandedLemmas.{expanded_alone}
+use Rattle.mysql_fragments.proofs.ExpandedLemmas.{expanded_alone, expanded_shapes}
 use Rattle.mysql_bind_core.specs.Bound.{IsAssignedText, IsPortableQuery, IsTaken, IsTextFor, of_fragments, of_values}
 use Rattle.mysql_bind_core.specs.Entries.{IsFragmentsFor}
 use Rattle.mysql_bind_core.specs.Requests.{mode_of}
@@ -74,9 +75,9 @@ returns c = record {
         let r : IsReadAs (with_literal_tokens ts b.literal_tokens) vs =
         subst (λ us. IsReadAs us vs) (low_replaced false ts b.literals b.literal_tokens text (b.tokens_of_literals false) b.text_is)
         (s.read client false (text_of (lower_names ts)) text (lower_names ts) vs b.literals b.literal_tokens honest (low_tokens false query ts is) p.portable.alike p.no_opener
-        (low_alone false query ts is (bound_alone ts given text b)) b.shapes (b.tokens_of_literals false) (low_joined ts b.literals text b.text_is) v) in
+        (low_alone false query ts is (bound_alone ts given text b)) (shapes_in b) (b.tokens_of_literals false) (low_joined ts b.literals text b.text_is) v) in
         read_statements r
-        ∙ (ap length (s.statements false ts b.literals b.literal_tokens b.shapes (b.tokens_of_literals false)) ∙ length-with_literals (statements ts) b.literal_tokens)
+        ∙ (ap length (s.statements false ts b.literals b.literal_tokens (shapes_in b) (b.tokens_of_literals false)) ∙ length-with_literals (statements ts) b.literal_tokens)
 
     values_count : (asked : Literals) (wanted : Portability) (client : Client) (query text : List ℕ) (ts vs : List Token) (given : Given) → IsHonest client.reader → IsPortableInClient (lower_names ts) →
         IsTokensIn (wide_reading (mode_of asked)) query ts → IsTextFor asked wanted ts given text → IsReadBy client (mode_of asked) text vs → length (statements vs) ≡ length (statements ts)
@@ -89,7 +90,7 @@ returns c = record {
         IsReadBy client false text (with_literal_tokens us b.literal_tokens)
     steady_read client query text ts us given honest decides p is b u =
         c.steady_texts_in_clients.ensures.tokens client false (text_of (lower_names ts)) text (lower_names ts) us b.literals b.literal_tokens honest decides (low_tokens false query ts is) p.portable.alike p.no_opener
-        (low_alone false query ts is (bound_alone ts given text b)) b.shapes (b.tokens_of_literals false) (low_joined ts b.literals text b.text_is) u
+        (low_alone false query ts is (bound_alone ts given text b)) (shapes_in b) (b.tokens_of_literals false) (low_joined ts b.literals text b.text_is) u
 
     values_read : (asked : Literals) (wanted : Portability) (client : Client) (query text : List ℕ) (ts us : List Token) (given : Given) → IsHonest client.reader → DecidesWithin client.reader → IsPortableInClient (lower_names ts) →
         IsTokensIn (wide_reading (mode_of asked)) query ts → (b : IsTextFor asked wanted ts given text) → IsReadBy client (mode_of asked) (text_of (lower_names ts)) us →
@@ -110,19 +111,19 @@ returns c = record {
         IsPortableInClient (lower_names ts) → (x : IsExpanded true mode ts given expanded) → HoldNoOpener (with_literal_tokens ts x.lists)
     expanded_opener mode expanded ts given p x =
         subst (λ us. HoldNoOpener us) (low_replaced mode ts (map fragment_text x.fragments) x.lists expanded x.tokens_of_fragments x.text_is)
-        (c.fragments_in_clients.ensures.no_opener mode (lower_names ts) _ _ x.lists x.shapes x.tokens_of_fragments p.no_opener)
+        (c.fragments_in_clients.ensures.no_opener mode (lower_names ts) _ _ x.lists (expanded_shapes x) x.tokens_of_fragments p.no_opener)
 
     expanded_count : (mode : Bool) (expanded : List ℕ) (ts : List Token) (given : GivenFragments) → (x : IsExpanded true mode ts given expanded) →
         length (statements (with_literal_tokens ts x.lists)) ≡ length (statements ts)
     expanded_count mode expanded ts given x =
-        ap length (c.fragments_in_clients.ensures.statements mode ts _ _ x.lists x.shapes x.tokens_of_fragments) ∙ length-with_literals (statements ts) x.lists
+        ap length (c.fragments_in_clients.ensures.statements mode ts _ _ x.lists (expanded_shapes x) x.tokens_of_fragments) ∙ length-with_literals (statements ts) x.lists
 
     expanded_read : (client : Client) (mode : Bool) (query expanded : List ℕ) (ts us : List Token) (given : GivenFragments) → IsHonest client.reader → DecidesWithin client.reader →
         IsTokensIn (wide_reading mode) query ts → IsPortableInClient (lower_names ts) → (x : IsExpanded true mode ts given expanded) →
         IsReadBy client mode (text_of (lower_names ts)) us → IsReadBy client mode expanded (with_literal_tokens us x.lists)
     expanded_read client mode query expanded ts us given honest decides is p x u =
         c.fragments_in_clients.ensures.tokens client mode (text_of (lower_names ts)) expanded (lower_names ts) us _ _ x.lists honest decides (low_tokens mode query ts is) p.portable.alike p.no_opener
-        (low_alone mode query ts is (expanded_alone true mode ts given expanded x)) x.shapes x.tokens_of_fragments (low_joined ts (map fragment_text x.fragments) expanded x.text_is) u
+        (low_alone mode query ts is (expanded_alone true mode ts given expanded x)) (expanded_shapes x) x.tokens_of_fragments (low_joined ts (map fragment_text x.fragments) expanded x.text_is) u
 
     -- ---- fragments
 

@@ -1,10 +1,8 @@
 use Rattle.mysql_client.proofs.SharpLemmas as lemmas
-use Rattle.mysql_client.proofs.laws.conditions_are_needed.Goals as goal
+use Rattle.mysql_client.proofs.laws.spaces_are_needed.Goals as goal
 
 pub returns : goal.returns
 returns c = record {
-  mark_in_front = lemmas.mark_in_front;
-  backslash_at_end = lemmas.backslash_at_end;
   nothing_at_hint = lemmas.nothing_at_hint;
   hint = lemmas.hint;
   nothing_after_end = lemmas.nothing_after_end;
