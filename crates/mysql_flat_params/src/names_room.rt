@@ -18,7 +18,7 @@ ghost use Rattle.mysql_flat_params.specs.Outcomes.{IfDone, IfTooLong, UnlessDone
 
 use crate::outcome::Outcome;
 use memchr::memchr;
-use mysql_named_params::places::{PlaceKind, Reading, first_place_in};
+use mysql_named_params::places::{PlaceKind, Reading, first_place_in, first_place_inlined};
 use mysql_wire_part::{fill_lenenc_str, lenenc_str_len, put_lenenc_str};
 use std::alloc::{AllocError, Global};
 
@@ -131,7 +131,7 @@ fn gathered_names(
     let mut text = Vec::with_capacity(alloc, query.len())?;
     let mut row = Vec::new(alloc);
     let mut rest = query;
-    while let Some(found) = first_place_in(rest, reading) {
+    while let Some(found) = first_place_inlined(rest, reading) {
         let (before, place, after) = found.cut(rest);
         text.extend_from_slice(before)?;
         text.push(b'?')?;
@@ -193,7 +193,7 @@ fn names_survey(query: &[u8], reading: Reading) -> NamesSurvey
     let mut marked_len = 0;
     let mut row_len = 0;
     let mut rest = query;
-    while let Some(found) = first_place_in(rest, reading) {
+    while let Some(found) = first_place_inlined(rest, reading) {
         let (_, place, after) = found.cut(rest);
         marked_len += found.before + 1;
         match found.kind {
@@ -277,7 +277,7 @@ fn fill_names(query: &[u8], reading: Reading, text: &mut [u8], row: &mut [u8])
     let mut text_at = 0;
     let mut row_at = 0;
     let mut rest = query;
-    while let Some(found) = first_place_in(rest, reading) {
+    while let Some(found) = first_place_inlined(rest, reading) {
         let (before, place, after) = found.cut(rest);
         text_at = append_bytes(text, text_at, before);
         text_at = append_mark(text, text_at);

@@ -71,23 +71,6 @@ pub fn first_place(text: &[u8], no_backslash_escape: bool) -> Option<FoundPlace>
     )
 }
 
-/// [`first_place`], inlined, for the loops that find most places of a query. A query of 1,000 names
-/// takes 4 in a hundred fewer instructions by it. For the crate above.
-#[inline(always)]
-pub fn first_place_inlined(text: &[u8], no_backslash_escape: bool) -> Option<FoundPlace>
-    ensures place { OnTokens no_backslash_escape text.now (λ ts. IfSome result (IsFirstPlace ts)) }
-    ensures none { OnTokens no_backslash_escape text.now (λ ts.
-        result ≡ None → place_count ts ≡ 0) }
-    ensures in_range { IfSome result (λ found.
-        (0 < found.len) × (found.before + found.len ≤ length text.now)) }
-{
-    let reading = Reading {
-        no_backslash_escape,
-        wide_names: false,
-    };
-    first_place_read(text, reading)
-}
-
 /// The first name or mark of a text in a reading. In a reading with wide names, a wide name is one
 /// place.
 pub fn first_place_in(text: &[u8], reading: Reading) -> Option<FoundPlace>
@@ -106,6 +89,26 @@ pub fn first_place_in(text: &[u8], reading: Reading) -> Option<FoundPlace>
             wide_names: true,
         },
     )
+}
+
+/// [`first_place_in`], inlined where no name is wide, for the loops that find most places of a
+/// query. A query of 1,000 names takes 4 in a hundred fewer instructions by it. For the crates
+/// above.
+#[inline(always)]
+pub fn first_place_inlined(text: &[u8], reading: Reading) -> Option<FoundPlace>
+    ensures place { OnTokensIn reading text.now (λ ts. IfSome result (IsFirstPlace ts)) }
+    ensures none { OnTokensIn reading text.now (λ ts. result ≡ None → place_count ts ≡ 0) }
+    ensures in_range { IfSome result (λ found.
+        (0 < found.len) × (found.before + found.len ≤ length text.now)) }
+{
+    if reading.wide_names {
+        return first_place_in(text, reading);
+    }
+    let narrow = Reading {
+        no_backslash_escape: reading.no_backslash_escape,
+        wide_names: false,
+    };
+    first_place_read(text, narrow)
 }
 
 // The same. It is inlined, so that the walk without wide names doesn't test for them.

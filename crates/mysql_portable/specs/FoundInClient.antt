@@ -1,7 +1,9 @@
 -- The effects that a client of Client.antt has on a query's tokens, besides reading them: commands,
 -- lines that it drops, bytes that it changes or never sends. Each token is tested with the text
 -- before and after it, and the test gives the construct that it finds. Source: the texts that the
--- clients send, by experiment (docs/EVIDENCE.md). No law says that these are all effects.
+-- clients send, by experiment (docs/EVIDENCE.md). That these are all effects, except spaces and
+-- what else SentStatements.antt of `mysql_client` lists, is a law of that crate,
+-- `portable_texts_are_sent`.
 use Rattle.std.specs.Prelude.{ℕ, Bool, true, false, not, ◌==◌, ◌&&◌, ◌||◌, nat_le, nat_lt, ◌-◌, if◌then◌else◌, List, [], ◌∷◌, length, drop, codes, Option, Some, None}
 use Rattle.std.specs.List.{list_any}
 use Rattle.std.specs.Char.{to_ascii_lowercase}

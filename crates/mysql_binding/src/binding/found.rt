@@ -13,8 +13,8 @@ ghost use Rattle.mysql_binding.specs.PlaceValues.{placed_values};
 
 use crate::binding::kept_values::KeptValues;
 use crate::binding::place_values::PlaceValues;
-use crate::binding::survey::{SurveyedQuery, next_place};
-use mysql_named_params::places::{FoundPlace, Reading, first_place_in};
+use crate::binding::survey::SurveyedQuery;
+use mysql_named_params::places::{FoundPlace, Reading, first_place_in, first_place_inlined};
 use mysql_params_core::params::BorrowedParams;
 use std::alloc::{AllocError, Global};
 
@@ -67,7 +67,7 @@ fn place_after_inlined(
         let found = known[i];
         return Some(found);
     }
-    match next_place(rest, reading) {
+    match first_place_inlined(rest, reading) {
         Some(found) => Some(found),
         None => None,
     }

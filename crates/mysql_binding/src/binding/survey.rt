@@ -1,16 +1,12 @@
 //! The facts about a query's places that are known before values are looked up, found in one walk
 //! that allocates nothing. Also the bytes that may be directly beside a place.
-ghost use Rattle.std.specs.Prelude.{◌≡◌, ◌+◌, ◌<◌, ◌≤◌, length, take, None, Some, IfSome, drop, if◌then◌else◌};
-ghost use Rattle.mysql_named_params.specs.FirstPlace.{IsFirstPlace};
-ghost use Rattle.mysql_named_params.specs.Places.{place_count};
+ghost use Rattle.std.specs.Prelude.{◌≡◌, ◌+◌, ◌<◌, ◌≤◌, length, take, None, Some, drop, if◌then◌else◌};
 ghost use Rattle.mysql_named_params.specs.Reading.{OnTokensIn};
 ghost use Rattle.mysql_binding.specs.FoundPlaces.{AreFirstPlaces, found_places};
 ghost use Rattle.mysql_binding.specs.Survey.{IsSurvey, IsSurveyOf};
 ghost use Rattle.mysql_binding.specs.StandsAlone.{stands_alone, may_stand_before, may_stand_after, none_or_first, none_or_last};
 
-use mysql_named_params::places::{
-    FoundPlace, PlaceKind, Reading, first_place_in, first_place_inlined,
-};
+use mysql_named_params::places::{FoundPlace, PlaceKind, Reading, first_place_inlined};
 
 /// A query, its reading, and the facts that one walk found about its places. For the crates above;
 /// no user needs it.
@@ -83,22 +79,6 @@ pub struct Survey {
     pub piece_bytes: usize,
 }
 
-/// The first name or mark of a text in a reading. It is inlined, so that a loop over the places of
-/// the grammar makes no call for each.
-#[inline(always)]
-pub(super) fn next_place(text: &[u8], reading: Reading) -> Option<FoundPlace>
-    ensures place { OnTokensIn reading text.now (λ ts. IfSome result (IsFirstPlace ts)) }
-    ensures none { OnTokensIn reading text.now (λ ts. result ≡ None → place_count ts ≡ 0) }
-    ensures in_range { IfSome result (λ found.
-        (0 < found.len) × (found.before + found.len ≤ length text.now)) }
-{
-    if reading.wide_names {
-        first_place_in(text, reading)
-    } else {
-        first_place_inlined(text, reading.no_backslash_escape)
-    }
-}
-
 /// The survey of a query, and the number of its first places that were kept in `first`.
 pub fn place_survey(query: &[u8], first: &mut [FoundPlace], reading: Reading) -> (Survey, usize)
     ensures survey { OnTokensIn reading query.now (IsSurvey result.0) }
@@ -129,7 +109,7 @@ fn survey_read(query: &[u8], first: &mut [FoundPlace], reading: Reading) -> (Sur
     let mut piece_bytes = 0;
     let mut kept = 0;
     let mut at = 0;
-    while let Some(found) = next_place(&query[at..], reading) {
+    while let Some(found) = first_place_inlined(&query[at..], reading) {
         let start = at + found.before;
         let end = start + found.len;
         let here = not_alone_at(query, names + marks, start, end);
