@@ -48,9 +48,12 @@ class Edit:
         """Its name as the page has it. A bare asterisk would begin or end emphasis."""
         return self.shown_in(None)
 
-    def shown_in(self, crate):
-        """The same in a row of this crate, whose own edits lack its name there, for the page's bytes."""
+    def shown_in(self, crate, function=None):
+        """The same in a row of this crate, whose own edits lack its name there, and the name of the function that they
+        change, for the page's bytes."""
         name = self.name if crate == self.crate else f"{self.crate}/{self.name}"
+        if function and name.startswith(f"{function}."):
+            name = name.removeprefix(function)
         return f"`{name}`" + ("\\*" if self.is_apart else "")
 
 

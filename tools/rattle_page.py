@@ -191,8 +191,9 @@ def record_faults(page, items):
 
 
 def has_edit(text, edit):
-    """Whether the page names the edit, with or without its crate."""
-    shown = "|".join(re.escape(edit.shown_in(crate)) for crate in (None, edit.crate))
+    """Whether the page names the edit, with or without its crate, and the function that it changes."""
+    functions = [None, *(edit.name[:at.start()] for at in re.finditer(r"\.", edit.name))]
+    shown = "|".join(re.escape(edit.shown_in(crate, one)) for crate in (None, edit.crate) for one in functions)
     return re.search(rf"(?:{shown})(?!\\)", text)
 
 
