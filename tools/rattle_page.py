@@ -21,7 +21,7 @@ MEMBER = re.compile(r"result ≡ (?P<method>⟦<.+ as \w+>⟧\.\w+) a\.now b\.no
 SAYS = {"same": "IsTrue result ↔ ", "order": "result ≡ "}
 
 # What a row of the page begins with: its anchor, its title and its file.
-TITLE = r'<a id=(?P<id>[^>]+)></a>\[\*\*`(?P<title>[^`]+)`\*\*\]\(\.\./(?P<path>[^)]+)\)'
+TITLE = r'<a id=(?P<id>[^>]+)></a>\[`(?P<title>[^`]+)`\]\(\.\./(?P<path>[^)]+)\)'
 HEAD = re.compile(rf"- {TITLE}(?:`(?P<signature>[^`]+)`)?:")
 LIKE = re.compile(r" As \[`[^`]+`\]\(#([^)]+)\)(?:, with ((?:`[^`]+` for `[^`]+`(?:, )?)+))?\.")
 PAIR = re.compile(r"`([^`]+)` for `([^`]+)`")
@@ -50,7 +50,7 @@ def clause_text(name, says, comment):
 
 def file_link(title, path):
     """The title of a row, which leads to its file."""
-    return f"[**`{title}`**](../{path.relative_to(ROOT)})"
+    return f"[`{title}`](../{path.relative_to(ROOT)})"
 
 
 def law_row(made_id, path, law, sentence):

@@ -546,8 +546,6 @@ template <typename Find> std::optional<Unportable> found(Find find, std::string_
     mysql_params_report report{};
     const std::int32_t construct =
         find(bytes_of(query), query.size(), mode == Mode::no_backslash_escapes, &report);
-    if (construct == MYSQL_PARAMS_NO_MEMORY)
-        throw std::bad_alloc();
     if (construct == MYSQL_PARAMS_PORTABLE)
         return std::nullopt;
     return Unportable{construct, report.position};

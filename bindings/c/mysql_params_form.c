@@ -1234,8 +1234,6 @@ static int32_t bind_portable(const in_a_mode *to, const uint8_t *form, size_t fo
     int32_t construct = mysql_params_first_unportable_wide(to->query, to->query_len, to->no_backslash_escape, report);
     if (construct == MYSQL_PARAMS_PORTABLE)
         return to->bind(to->query, to->query_len, form, form_len, to->no_backslash_escape, room, room_len, report);
-    if (construct == MYSQL_PARAMS_NO_MEMORY)
-        return MYSQL_PARAMS_OUT_OF_MEMORY;
     report->byte = (size_t)construct;
     return MYSQL_PARAMS_UNPORTABLE;
 }

@@ -496,30 +496,15 @@ static void try_construct(const test_case *it)
         expect(message != NULL && strcmp(message, (const char *)it->message.at) == 0, it, "another text is wanted");
 }
 
-/* Memory is asked for only for a copy of a query with a capital in a name. */
-static void try_copied_construct(const test_case *it)
-{
-    mysql_params_report report = {9, 9, 9, 9, 9, 9}, none = {0};
-    allocation_refused = false;
-    allocations_left = 0;
-    int32_t number = first_of_case(it->query.at, it->query.len, it->no_backslash_escape, &report);
-    allocations_left = ALL;
-    expect(allocation_refused == (number == MYSQL_PARAMS_NO_MEMORY), it, "another refusal of memory is wanted");
-    expect(!allocation_refused || same_report(&report, &none), it, "the report isn't empty");
-    number = first_of_case(it->query.at, it->query.len, it->no_backslash_escape, &report);
-    expect(number == it->number && same_report(&report, &it->report), it, "another construct is wanted");
-}
-
 static void portable_queries(void)
 {
-    void (*use)(const test_case *) = by == &by_wide_names ? try_copied_construct : try_construct;
     test_case it = {0};
     first_of_case = by->first_unportable;
     each_case(folder, "portable.txt", try_construct);
-    expect(each_own_case("portable.txt", use) > 0, &it, "the calls have cases of their own");
+    expect(each_own_case("portable.txt", try_construct) > 0, &it, "the calls have cases of their own");
     first_of_case = by->first_unportable_in_client;
     each_case(folder, "in_client.txt", try_construct);
-    each_own_case("in_client.txt", use);
+    each_own_case("in_client.txt", try_construct);
 }
 
 /* Numbers that are no construct. */

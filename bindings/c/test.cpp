@@ -493,9 +493,8 @@ static void constructs_of_wide_names()
     const auto in_client = first_unportable_in_client("-:A");
     expect(in_client && in_client->construct == MYSQL_PARAMS_DASH_IN_FRONT, "a client may take it for a comment");
     expect(!first_unportable("SELECT :userId") && !first_unportable_in_client("SELECT :userId"), "it is portable");
-    expect(needs_memory([&] { first_unportable(hint); }), "it is out of memory");
-    expect(needs_memory([&] { first_unportable_in_client("SELECT :userId"); }), "so for a client");
-    expect(!needs_memory([] { first_unportable("SELECT :a"); }), "without a capital it needs none");
+    expect(!needs_memory([&] { first_unportable(hint); }), "it needs no memory");
+    expect(!needs_memory([&] { first_unportable_in_client("SELECT :userId"); }), "nor does it for a client");
 }
 
 /* The folder of the cases. */

@@ -54,7 +54,7 @@ type Unportable struct {
 }
 
 // FirstUnportable returns the first construct of a query that servers read in different ways; nil if there is
-// none. Ask it of each query, once, before you bind to it by Bind. The error says that there is no memory.
+// none. Ask it of each query, once, before you bind to it by Bind.
 func FirstUnportable(mode Mode, query string) (*Unportable, error) {
 	return inServers.found(mode, query)
 }
@@ -82,9 +82,6 @@ func (ask firstUnportable) found(mode Mode, query string) (*Unportable, error) {
 	switch {
 	case number == C.MYSQL_PARAMS_PORTABLE:
 		return nil, nil
-	case number == C.MYSQL_PARAMS_NO_MEMORY:
-		r.report = C.mysql_params_report{}
-		return nil, r.refusal(C.MYSQL_PARAMS_OUT_OF_MEMORY, &question{mode: mode, query: query})
 	case number < 0 || number > C.MYSQL_PARAMS_RETURN_IN_COMMENT:
 		return nil, wrongArchive("unknown construct " + strconv.Itoa(int(number)))
 	}

@@ -186,7 +186,7 @@ class Test(unittest.TestCase):
             with self.assertRaises(OutOfMemoryError) as raised:
                 call()
             self.assertIsInstance(raised.exception, MemoryError)
-        with self.assertRaises(OutOfMemoryError):
+        with self.assertRaises(RuntimeError):
             first_unportable("-1")
 
     def test_rooms_without_memory(self):

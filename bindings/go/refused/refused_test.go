@@ -58,10 +58,6 @@ func TestRefusedMemory(t *testing.T) {
 			_, err := NewTemplate(BackslashEscapes, byName)
 			return "made", err
 		},
-		"FirstUnportable": func() (string, error) {
-			found, err := FirstUnportable(BackslashEscapes, ":A [")
-			return fmt.Sprint(found), err
-		},
 	} {
 		wanted, err := call()
 		if err != nil {
@@ -87,9 +83,21 @@ func TestRefusedMemory(t *testing.T) {
 		if blocks() != before {
 			t.Errorf("%s: %d blocks aren't given back", name, blocks()-before)
 		}
-		if refused == 0 || text != wanted && name != "FirstUnportable" {
+		if refused == 0 || text != wanted {
 			t.Error(name, refused, text)
 		}
+	}
+}
+
+// TestFirstUnportableWithoutMemory finds a construct although all memory is refused.
+func TestFirstUnportableWithoutMemory(t *testing.T) {
+	runtime.LockOSThread()
+	defer runtime.UnlockOSThread()
+	refuseAfter(0)
+	found, err := FirstUnportable(BackslashEscapes, ":A [")
+	refuseAfter(-1)
+	if err != nil || found == nil || found.Position != 3 {
+		t.Error(found, err)
 	}
 }
 

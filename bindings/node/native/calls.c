@@ -278,8 +278,6 @@ napi_value native_first_unportable(napi_env env, napi_callback_info info)
     if (number == MYSQL_PARAMS_PORTABLE) {
         if (napi_create_uint32(env, 0, &found) != napi_ok)
             found = throw_range(env, "no memory for a number");
-    } else if (number == MYSQL_PARAMS_NO_MEMORY) {
-        found = refusal_of(env, MYSQL_PARAMS_OUT_OF_MEMORY, &report, taken.at, taken.len);
     } else {
         report.byte = (size_t)number;
         found = refusal_of(env, MYSQL_PARAMS_UNPORTABLE, &report, taken.at, taken.len);

@@ -243,8 +243,6 @@ static void find(INTERNAL_FUNCTION_PARAMETERS, first_call *call)
     if (!take_mode(given, 2, &mode))
         RETURN_THROWS();
     int32_t number = call(bytes_of(query).at, ZSTR_LEN(query), mode, &report);
-    if (number == MYSQL_PARAMS_NO_MEMORY)
-        refuse_memory();
     if (number == MYSQL_PARAMS_PORTABLE)
         RETURN_NULL();
     if (zend_enum_get_case_by_value(&construct, construct_ce, number, NULL, false) != SUCCESS)

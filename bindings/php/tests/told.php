@@ -15,8 +15,7 @@ require __DIR__ . '/connections.php';
 
 test('memory that is refused is an error of PHP', function () {
     $calls = ["MysqlParams\\bind('1')", "MysqlParams\\bind_anywhere('1', [1])", "MysqlParams\\bind_in_both_modes('1')", "MysqlParams\\names('1')",
-        "MysqlParams\\bind_rows('1', [[1]])", "new MysqlParams\\Template('1')", "MysqlParams\\first_unportable('-1')", "MysqlParams\\bind('1', [[1, 2]])",
-        "MysqlParams\\first_unportable_in_client('-1')"];
+        "MysqlParams\\bind_rows('1', [[1]])", "new MysqlParams\\Template('1')", "MysqlParams\\bind('1', [[1, 2]])"];
     foreach ($calls as $call) {
         [$said, $status] = in_process("try { $call; } catch (Throwable) { echo 'caught'; } echo 'went on';");
         same(['PHP Fatal error:  Out of memory (mysql_params) in Command line code on line 1', 255], [str_replace('Fatal error: O', 'PHP Fatal error:  O', $said), $status], $call);

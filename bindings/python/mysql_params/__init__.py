@@ -207,8 +207,7 @@ def first_unportable(query: Union[str, bytes], no_backslash_escape: bool = False
     portable. Ask it of each query, once, before you bind to it. What stands within strings, quoted identifiers and
     comments is none, except a quote after a backslash in a string in double quotes, a backslash before the end of an
     identifier, and a carriage return in a comment of one line, not at its end. A str is taken as its UTF-8, and
-    positions count its bytes. The flag is that of bind. Only a query with a capital in a name needs memory:
-    raise OutOfMemoryError if there is none.
+    positions count its bytes. The flag is that of bind.
 
     >>> found = first_unportable("SELECT /*! :a */ 1")
     >>> found.construct.name, found.position

@@ -19,11 +19,11 @@ except ModuleNotFoundError as fault:
     ) from fault
 
 from . import _form, _fragments, _native, _values
-from .errors import _ERRORS, ArgumentTypeError, Error, Fault, FloatError, FragmentError, OutOfMemoryError, RepeatedNameError
+from .errors import _ERRORS, ArgumentTypeError, Error, Fault, FloatError, FragmentError, RepeatedNameError
 from .errors import UnbracketedError, UnsteadyFragmentError
 from .portable import Construct, Unportable
 
-PORTABLE, NO_MEMORY = 0, -1
+PORTABLE = 0
 
 
 class Report(NamedTuple):
@@ -172,9 +172,7 @@ def bind_rows(query: bytes, rows: Iterable[object], mode: bool) -> list[bytes]:
 
 
 def unportable(number: int, position: int) -> Optional[Unportable]:
-    """Return what the number of a construct and its position say. Raise OutOfMemoryError."""
-    if number == NO_MEMORY:
-        raise OutOfMemoryError()
+    """Return what the number of a construct and its position say."""
     return None if number == PORTABLE else Unportable(construct_of(number), position)
 
 

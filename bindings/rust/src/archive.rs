@@ -176,8 +176,6 @@ pub(crate) fn processor_suffices() -> bool {
 
 /// A query has no construct that servers read in different ways.
 const PORTABLE: i32 = 0;
-/// There was no memory to look for one.
-const NO_MEMORY: i32 = -1;
 
 /// A call of the archive.
 #[derive(Clone, Copy, Debug)]
@@ -634,12 +632,10 @@ pub(crate) fn first_unportable(
     unportable(number, &report)
 }
 
-/// What such a number with its report says; or `Err` for no memory, or if the number isn't one of mysql_params.h.
+/// What such a number with its report says; or `Err` if the number isn't one of mysql_params.h.
 pub(crate) fn unportable(number: i32, report: &Report) -> Result<Option<Unportable>, Error> {
-    match number {
-        PORTABLE => return Ok(None),
-        NO_MEMORY => return Err(Error::OutOfMemory),
-        _ => {}
+    if number == PORTABLE {
+        return Ok(None);
     }
     let construct = Construct::of_number(number).ok_or(Error::UnknownAnswer { number })?;
     Ok(Some(Unportable {

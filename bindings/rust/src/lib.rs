@@ -138,8 +138,7 @@ pub fn names_in(query: &[u8], no_backslash_escape: bool) -> Result<Names, Error>
 ///
 /// # Errors
 ///
-/// [`Error::OutOfMemory`], which only a query with a capital in a name can give; [`Error::Processor`];
-/// [`Error::UnknownAnswer`], from an archive that this crate wasn't written for.
+/// [`Error::Processor`]; [`Error::UnknownAnswer`], from an archive that this crate wasn't written for.
 pub fn first_unportable(query: &[u8]) -> Result<Option<Unportable>, Error> {
     first_unportable_in(query, false)
 }

@@ -303,8 +303,7 @@ fn numbers_of_constructs() {
         let construct = Construct::of_number(number).expect("a construct");
         assert_eq!(construct.number(), number);
     }
-    assert_eq!(unportable(-1, &Report::default()), Err(Error::OutOfMemory));
-    for number in [-2, 21, i32::MAX, i32::MIN] {
+    for number in [-1, 21, i32::MAX, i32::MIN] {
         assert_eq!(
             unportable(number, &report),
             Err(Error::UnknownAnswer { number })

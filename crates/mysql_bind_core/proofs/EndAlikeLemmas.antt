@@ -1,5 +1,5 @@
 -- A portable query that doesn't end with `--` is portable with the end of a statement too.
-use Rattle.std.specs.Prelude.{◌↔◌, Bool, IfOk, OnErr, Option, Result, Ok, Err, codes, not, drop}
+use Rattle.std.specs.Prelude.{◌↔◌, Bool, OnErr, Option, Result, Ok, Err, codes, not, drop}
 use Rattle.std.proofs.Common.{◌≡◌, ◌∙◌, ◌+◌, ◌++◌, ◌==◌, ◌&&◌, ◌||◌, ℕ, true, false, List, [], ◌∷◌, map, None, arith, inl, inr, refl, sym, ap, subst, append_assoc, true≢false}
 use Rattle.std.specs.Char.{is_ascii_digit, to_ascii_lowercase}
 use Rattle.std.specs.Str.{byte}
@@ -316,11 +316,10 @@ portable_with_end mode query closed n o =
 -- ---- what is found
 
 -- what is found in a query with its end
-pub found_with_end : {E : Type 0} (r : Result (Option Unportable) E) (mode : Bool) (query ended : List ℕ) → ended ≡ query ++ end →
-    IsPortableQuery mode query → IfOk r (λ found. OnWideTokens mode ended (λ ts. (found ≡ None) ↔ IsPortableInClient (lower_names ts))) →
-    IfOk r (λ found. found ≡ None → IsPortableQuery mode query × IsPortableQuery mode (query ++ end))
-found_with_end (Ok found) mode query ended e own o = λ none. (own, subst (IsPortableQuery mode) e (o.0, o.1, o.2.0 none))
-found_with_end (Err x) mode query ended e own o = tt
+pub found_with_end : (found : Option Unportable) (mode : Bool) (query ended : List ℕ) → ended ≡ query ++ end →
+    IsPortableQuery mode query → OnWideTokens mode ended (λ ts. (found ≡ None) ↔ IsPortableInClient (lower_names ts)) →
+    found ≡ None → IsPortableQuery mode query × IsPortableQuery mode (query ++ end)
+found_with_end found mode query ended e own o none = (own, subst (IsPortableQuery mode) e (o.0, o.1, o.2.0 none))
 
 -- what holds whatever the result is
 pub on_error : {A E : Type 0} (r : Result A E) (P : Type 0) → P → OnErr r P

@@ -147,7 +147,7 @@ token_beyond statement line (HashComment tail) u = refl
 token_beyond statement line (DashComment gap tail) u = refl
 token_beyond statement line (BlockComment tail) u = block_beyond tail u
 token_beyond statement line (Name name) u = refl
-token_beyond statement line Mark u = refl
+token_beyond statement line Mark u = found_word_beyond statement line question_mark u
 token_beyond statement line (Plain b) u = byte_beyond statement line b u
 
 found_beyond : (statement line : Bool) (t : Token) {x y : List ℕ} → Beyond x y → found_in_client statement line t x ≡ found_in_client statement line t y

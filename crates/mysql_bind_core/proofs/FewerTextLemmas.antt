@@ -288,11 +288,10 @@ module _ (ts : List Token) (m n : FragmentMap) (h : AreLessByName m n) (none : f
     not_refused_steady : (wanted : Portability) (error : SteadyFragmentsError) → is_of_memory (failure.SteadyFragments error) ≡ false →
         IsSteady query → looked_for wanted ts ≡ None → unsteady_place (fragments_for (named n) (names ts)) ≡ None →
         IsFragmentsRefusal literals.Steady wanted query ts (named m) (failure.SteadyFragments error) → ⊥
-    not_refused_steady wanted error other s p u (inl e) = true≢false (sym (ap (λ x. is_of_memory (failure.SteadyFragments x)) e) ∙ other)
-    not_refused_steady wanted (steady.Unsteady at) other s p u (inr e) = some_none (sym e ∙ (none_unsteady query).1 s)
-    not_refused_steady wanted (steady.Unportable found) other s p u (inr e) = some_none (sym e.1 ∙ p)
-    not_refused_steady wanted (steady.Fragments error) other s p u (inr e) = not_refused error other e.2
-    not_refused_steady wanted (steady.UnsteadyFragment place) other s p u (inr e) =
+    not_refused_steady wanted (steady.Unsteady at) other s p u e = some_none (sym e ∙ (none_unsteady query).1 s)
+    not_refused_steady wanted (steady.Unportable found) other s p u e = some_none (sym e.1 ∙ p)
+    not_refused_steady wanted (steady.Fragments error) other s p u e = not_refused error other e.2
+    not_refused_steady wanted (steady.UnsteadyFragment place) other s p u e =
         some_none (sym e.2.1 ∙ less_unsteady ts (fragments_for (named m) (names ts)) (fragments_for (named n) (names ts)) (less_places m n h (names ts)) u)
 
 -- nothing refuses the text with fewer rows

@@ -1,8 +1,8 @@
 -- Which refusal comes: the first that holds, in the order of `Failure`.
 use Rattle.std.specs.Prelude.{◌≡◌, ◌++◌, ◌≢◌, ◌⊎◌, ℕ, Bool, true, false, List, map, Some, None, Result, Ok, Err, ⊤, Option}
 use Rattle.mysql_values.specs.declared.value.Value.{Value}
-use Rattle.mysql_named_params.specs.LoweredNames.{have_capitals, lower_names}
-use Rattle.mysql_named_params.specs.NamesAndMarks.{marks, names}
+use Rattle.mysql_named_params.specs.LoweredNames.{lower_names}
+use Rattle.mysql_named_params.specs.NamesAndMarks.{marks}
 use Rattle.mysql_named_params.specs.Reading.{OnWideTokens}
 use Rattle.mysql_named_params.specs.Tokens.{Token, OnTokens}
 use Rattle.mysql_portable.specs.Steady.{first_unsteady}
@@ -17,7 +17,7 @@ use Rattle.mysql_steady_text.specs.SteadyTextErrors.{IsSteadyRefusal}
 use Rattle.mysql_fragments.specs.FragmentErrors as fragments
 use Rattle.mysql_fragments.specs.GivenFragments.{FragmentMap, GivenFragments, named}
 use Rattle.mysql_fragments.specs.declared.fragment.Fragment.{Fragment}
-use Rattle.mysql_fragments.specs.WideSteadyFragments as steady
+use Rattle.mysql_fragments.specs.SteadyFragmentsErrors as steady
 use Rattle.mysql_bind_core.specs.Assignments.{given_of, pairs_of}
 use Rattle.mysql_bind_core.specs.Bound.{IsAssignedText, IsClosed, IsSteadyIfWanted, IsPortableIfWanted, IsPortableQuery, IsTaken}
 use Rattle.mysql_bind_core.specs.Contents.{contents_of, has_fragment}
@@ -63,14 +63,13 @@ IsQueryRefusal request query failure.Marks =
 IsQueryRefusal request query (failure.Memory error) = ⊤
 IsQueryRefusal request query why = ⊥
 
--- the query is copied to check whether it is portable: it has to be portable, it isn't refused
--- before, and a name has a capital or the query ends with `--`
+-- the query is copied to check whether it is portable with the end of a statement: it has to be, it
+-- isn't refused before, it has no construct itself, and it ends with `--`
 abbrev pub IsCopied : Request → List ℕ → Type 0
 IsCopied request query =
     IsClosed request query × IsSteadyIfWanted request query
     × (request.portability ≡ portability.Portable)
-    × (OnWideTokens (mode_of request.literals) query (λ ts. have_capitals (names ts) ≡ true)
-    ⊎ EndsWithDashes query)
+    × IsPortableQuery (mode_of request.literals) query × EndsWithDashes query
 
 -- the failure for an error of pairs
 abbrev pub pairs_failure : PairsError → Failure
@@ -126,7 +125,7 @@ abbrev pub IsFragmentsRefusal : Literals → Portability → List ℕ → List T
 IsFragmentsRefusal (literals.Plain mode) wanted query ts given (failure.Fragments error) =
     fragments.IsCauseOrMemory (fragments.first_cause true ts given) error
 IsFragmentsRefusal literals.Steady wanted query ts given (failure.SteadyFragments error) =
-    steady.IsWideSteadyRefusal query (looked_for wanted ts) ts given error
+    steady.IsSteadyRefusal query (looked_for wanted ts) ts given error
 IsFragmentsRefusal asked wanted query ts given why = ⊥
 
 -- why nothing is written for assignments that are all values: they give nothing, or the given

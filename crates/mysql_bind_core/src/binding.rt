@@ -14,7 +14,7 @@ use std::io::Write;
 
 /// The query with the literals of the assigned values in the places of its wide names, or the
 /// refusal. The refusal is never `Write`. It is `Memory` only if the request takes the query, or,
-/// if a name has a capital or the query ends with `--`, in place of `Unportable` and `Marks`.
+/// if the query ends with `--`, in place of `Unportable` and `Marks`.
 pub fn bound_text(
     alloc: Global,
     query: &[u8],
@@ -39,8 +39,8 @@ pub fn bound_text(
 /// writes only if every server and the clients read the query and the text alike.
 ///
 /// Every refusal except `Write` means that nothing was written. `Memory` may come in place of any
-/// other result, if the request takes the query. If a name has a capital or the query ends with
-/// `--`, it may come in place of `Unportable` and `Marks`.
+/// other result, if the request takes the query. If the query ends with `--`, it may come in place
+/// of `Unportable` and `Marks`.
 pub fn write_bound<W: Write>(
     alloc: Global,
     query: &[u8],

@@ -1,12 +1,10 @@
 //! Why a request doesn't take a query, whatever is assigned to its names. The first reason is that
 //! the query ends within a token: the text after the query would be part of that token.
-ghost use Rattle.std.specs.Prelude.{◌≡◌, ◌≢◌, ◌++◌, ◌⊎◌, IfErr, IfOk, IfSome, IsErrOf, OnErr, OnOk, alloc_error, ℕ, Some, None, [], length, true, false, IsTrue};
+ghost use Rattle.std.specs.Prelude.{◌≡◌, ◌≢◌, ◌++◌, IfErr, IfOk, IfSome, IsErrOf, OnErr, OnOk, alloc_error, ℕ, Some, None, [], length, true, false, IsTrue};
 ghost use Rattle.mysql_sql_text.specs.StringUnits.{is_escape};
 ghost use Rattle.mysql_named_params.specs.Bytes.{is_string_quote};
-ghost use Rattle.mysql_named_params.specs.LoweredNames.{have_capitals};
-ghost use Rattle.mysql_named_params.specs.NamesAndMarks.{names};
 ghost use Rattle.mysql_named_params.specs.Tokens.{OnTokens, IsStringTail};
-ghost use Rattle.mysql_named_params.specs.Reading.{OnWideTokens, wide_reading};
+ghost use Rattle.mysql_named_params.specs.Reading.{wide_reading};
 ghost use Rattle.mysql_bind_core.specs.Bound.{IsClosed, IsNamed, IsPortableIfWanted, IsPortableQuery, IsSteadyIfWanted, IsTaken};
 ghost use Rattle.mysql_bind_core.specs.Refusals.{IsCopied, IsFoundInQuery, IsQueryRefusal};
 ghost use Rattle.mysql_bind_core.specs.Requests.{mode_of};
@@ -15,15 +13,16 @@ ghost use Rattle.mysql_bind_core.specs.QueryEnd.{EndsWithDashes, end, long_end, 
 use crate::failure::Failure;
 use crate::request::{Literals, Portability, Request};
 use mysql_binding::{SurveyedQuery, place_after};
+use mysql_named_params::places::Reading;
 use mysql_named_params::tokens::first_token;
 use mysql_portable::clear::is_clear_in_client;
 use mysql_portable::portable::Unportable;
 use mysql_portable::steady::first_unsteady;
-use mysql_portable::wide::first_unportable_in_client_wide;
+use mysql_portable::wide::first_unportable_in_client_in;
 use std::alloc::{AllocError, Global};
 
 // Whether the request takes a query that is surveyed in its mode, by wide names. It asks for memory
-// only for a copy of a query with a capital in a name, or of one that ends with `--`.
+// only for a copy of a query that ends with `--`.
 pub(crate) fn check_surveyed(
     alloc: Global,
     query: &SurveyedQuery<'_>,
@@ -130,10 +129,13 @@ fn first_found(
         IsPortableQuery no_backslash_escape query.now
         × IsPortableQuery no_backslash_escape (query.now ++ end)) }
     ensures memory { OnErr result
-        (OnWideTokens no_backslash_escape query.now (λ ts. have_capitals (names ts) ≡ true)
-        ⊎ EndsWithDashes query.now) }
+        (IsPortableQuery no_backslash_escape query.now × EndsWithDashes query.now) }
 {
-    if let Some(found) = first_unportable_in_client_wide(alloc, query, no_backslash_escape)? {
+    let reading = Reading {
+        no_backslash_escape,
+        wide_names: true,
+    };
+    if let Some(found) = first_unportable_in_client_in(query, reading) {
         return Ok(Some(found));
     }
     if !query.ends_with(b"--") {
@@ -141,7 +143,7 @@ fn first_found(
     }
     let mut ended = Vec::from_slice(alloc, query)?;
     ended.extend_from_slice(b"\n;")?;
-    first_unportable_in_client_wide(alloc, ended.as_slice(), no_backslash_escape)
+    Ok(first_unportable_in_client_in(ended.as_slice(), reading))
 }
 
 // Whether each place of the query has a name.

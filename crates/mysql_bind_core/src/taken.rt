@@ -58,8 +58,7 @@ impl<'q> Model for TakenQuery<'q> {
 impl<'q> TakenQuery<'q> {
     /// The query, if the request takes it. Otherwise the error is `Open`, `Unsteady`, `Unportable`
     /// or `Marks`, like that of [`check_query`]. It is `Memory` only if the request takes the
-    /// query, or, if a name has a capital or the query ends with `--`, in place of `Unportable` and
-    /// `Marks`.
+    /// query, or, if the query ends with `--`, in place of `Unportable` and `Marks`.
     pub fn new(alloc: Global, query: &'q [u8], request: Request) -> Result<TakenQuery<'q>, Failure>
         ensures query { IfOk result (λ t. t ≡ record { query = query.now; request = request }) }
         ensures taken { IfOk result (λ t. IsTaken request query.now) }
@@ -194,9 +193,10 @@ impl<'q> TakenQuery<'q> {
 }
 
 /// Whether the request takes the query, without any values. If it doesn't, the error is `Open`,
-/// `Unsteady`, `Unportable` or `Marks`. For a query with a capital in a name, or one that ends with
-/// `--`, it may ask for memory, for a copy of the query. If that is refused, the error is `Memory`.
-/// It never comes in place of `Open` or `Unsteady`.
+/// `Unsteady`, `Unportable` or `Marks`. For a query that ends with `--` it may ask for memory, for
+/// a copy of the query. If that is refused, the error is `Memory`. It never comes in place of
+/// `Open` or `Unsteady`, nor of the `Unportable` of a construct that the query has without the end
+/// of a statement.
 ///
 /// The end of a statement after the query counts for `Unportable`: `SELECT 1.e--` is refused, since
 /// servers read `1.e--` before a newline in different ways.

@@ -49,10 +49,11 @@ each_in_room IsText IsOther HasLength old new (TooShort len) each known (long, h
 
 -- ---- plain literals
 
-plain_known : (mode : Bool) (v : Value) (text : List ℕ) → FieldsInRange v → literal_of mode v ≡ Some text → IsPlainLiteral mode v text
+pub plain_known : (mode : Bool) (v : Value) (text : List ℕ) → FieldsInRange v → literal_of mode v ≡ Some text → IsPlainLiteral mode v text
 plain_known mode v text range is = (
   subst (λ o. IfSome o (IsLiteral mode)) is (literal_shape mode v range),
   subst (λ o. IfSome o (ReadsAs mode v)) is (literal_reads mode v range),
+  range,
 )
 
 -- the length of a bound text, before it is made

@@ -4,6 +4,7 @@ use Rattle.std.specs.Prelude.{◌≡◌, ℕ, Bool, List, [], ◌∷◌, length,
 use Rattle.mysql_values.specs.declared.value.Value.{Value}
 use Rattle.mysql_values.specs.Literal.{is_float}
 use Rattle.mysql_values.specs.ReadBack.{ReadsAs}
+use Rattle.mysql_values.specs.Value.{FieldsInRange}
 use Rattle.mysql_sql_text.specs.LiteralShape.{IsLiteral}
 
 -- the literal of each value, if it has one
@@ -26,9 +27,11 @@ written_literal literal value = unwrap_or (literal value) []
 abbrev pub literal_len : Literals → Value → ℕ
 literal_len literal value = length (written_literal literal value)
 
--- a plain literal in a mode: it has the shape of one, and reads as its value
+-- a plain literal in a mode: it has the shape of one, and reads as its value, whose fields are in
+-- range
 abbrev pub IsPlainLiteral : Bool → LiteralFacts
-IsPlainLiteral mode value text = IsLiteral mode text × ReadsAs mode value text
+IsPlainLiteral mode value text =
+    IsLiteral mode text × ReadsAs mode value text × FieldsInRange value
 
 -- there are as many texts as values, and each is the literal of its value, with its known facts
 abbrev pub AreWrittenAs : Literals → LiteralFacts → List Value → List (List ℕ) → Type 0

@@ -6,13 +6,13 @@ use crate::shared::{
     same_in,
 };
 use mysql_params::{
-    BindError, BindPairsError, BothModesError, BothModesPairsError, Construct, SteadyPairsError,
-    SteadyTextError, TextInRoom, Unportable, WideQuery, bind_wide_anywhere, bind_wide_in_any_mode,
-    bind_wide_in_both_modes, bind_wide_pairs, bind_wide_pairs_anywhere,
+    BindError, BindPairsError, BothModesError, BothModesPairsError, Construct, Reading,
+    SteadyPairsError, SteadyTextError, TextInRoom, Unportable, WideQuery, bind_wide_anywhere,
+    bind_wide_in_any_mode, bind_wide_in_both_modes, bind_wide_pairs, bind_wide_pairs_anywhere,
     bind_wide_pairs_in_any_mode, bind_wide_pairs_in_both_modes, bind_wide_pairs_into,
     bind_wide_values, bind_wide_values_anywhere, bind_wide_values_in_any_mode,
-    bind_wide_values_in_both_modes, bind_wide_values_into, first_unportable_in_client_wide,
-    first_unportable_wide,
+    bind_wide_values_in_both_modes, bind_wide_values_into, first_unportable_in,
+    first_unportable_in_client_in,
 };
 use mysql_values::value::ValueRef;
 use std::alloc::Global;
@@ -278,12 +278,16 @@ fn portability_by_wide_names(rt: HostRuntime) {
         ),
     ];
     for (query, wanted) in rows {
-        let found = answer_of(&rt, first_unportable_wide(rt.alloc(), *query, false));
-        same_in(&rt, found, *wanted, query);
-        let found = answer_of(
-            &rt,
-            first_unportable_in_client_wide(rt.alloc(), *query, true),
-        );
+        let reading = Reading {
+            no_backslash_escape: false,
+            wide_names: true,
+        };
+        same_in(&rt, first_unportable_in(*query, reading), *wanted, query);
+        let reading = Reading {
+            no_backslash_escape: true,
+            wide_names: true,
+        };
+        let found = first_unportable_in_client_in(*query, reading);
         same_in(&rt, found, *wanted, query);
     }
 }

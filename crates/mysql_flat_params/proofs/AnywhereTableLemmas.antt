@@ -1,16 +1,14 @@
 -- Binding for any mode and any server by a table.
 use Rattle.std.specs.Prelude.{true, Some, ⊤}
-use Rattle.std.proofs.Common.{◌≡◌, ◌∙◌, ℕ, List, [], ap, arith, sym}
-use Rattle.std.proofs.lemmas.List.{nil_from_length}
-use Rattle.mysql_named_params.specs.LoweredNames.{have_capitals, lower_names}
-use Rattle.mysql_named_params.specs.Places.{names, place_count}
-use Rattle.mysql_named_params.proofs.TokenRowLemmas.{place_count-sum}
+use Rattle.std.proofs.Common.{◌≡◌, ℕ, List}
+use Rattle.mysql_named_params.specs.LoweredNames.{lower_names}
 use Rattle.mysql_named_params.specs.Reading.{wide_reading}
 use Rattle.mysql_named_params.specs.Tokens.{Token}
 use Rattle.mysql_portable.specs.FirstUnportable.{first_unportable}
 use Rattle.mysql_portable.specs.Steady.{first_unsteady}
 use Rattle.mysql_portable.proofs.SteadyLemmas.{none_unsteady}
 use Rattle.mysql_steady_text.proofs.BothModesAnswerLemmas.{Agree}
+use Rattle.mysql_steady_text.proofs.PurposeLemmas.{steady_agree}
 use Rattle.mysql_flat_params.specs.AnywhereTable.{IsAnywhereTableOutcome, IsMadeAnywhereTable, IsRefusedAnywhere, IsTakenAnywhere}
 use Rattle.mysql_flat_params.specs.Outcomes as outcomes
 use Rattle.mysql_flat_params.specs.PlaceTable.{IsMadeTableIn, IsTableOutcomeIn}
@@ -20,13 +18,13 @@ use Rattle.mysql_flat_params.specs.declared.outcome.Outcome.TheVariants as varia
 use Rattle.mysql_binding.specs.declared.binding.spans.PlaceSpan.{PlaceSpan}
 use Rattle.mysql_flat_params.specs.declared.place_table.TableHead.{TableHead}
 use Rattle.mysql_flat_params.proofs.SteadyOutcomeLemmas.{told_first}
-use Rattle.mysql_flat_params.proofs.SteadyRoomLemmas.{agree_without_unsteady, none_told}
+use Rattle.mysql_flat_params.proofs.SteadyRoomLemmas.{none_told}
 
 -- the modes agree on a query that is taken
 pub taken_agree : (query : List ℕ) → IsTakenAnywhere query → Agree query
 taken_agree query taken =
     let o = taken true in
-    agree_without_unsteady query ((none_unsteady query).0 (none_told variant.Unsteady (first_unsteady query) (first_unportable (lower_names o.0)) o.2).0)
+    steady_agree query ((none_unsteady query).0 (none_told variant.Unsteady (first_unsteady query) (first_unportable (lower_names o.0)) o.2).0)
 
 -- the outcome of making the table of a query that is taken
 pub table_made_anywhere : (query : List ℕ) → IsTakenAnywhere query → (outcome : Outcome) → IsTableOutcomeIn (wide_reading true) query outcome →
@@ -35,13 +33,6 @@ table_made_anywhere query taken (variant.Done len) is = (taken, is)
 table_made_anywhere query taken (variant.Room len) is = (taken, is)
 table_made_anywhere query taken variant.OutOfMemory is = is
 table_made_anywhere query taken outcome is = absurd is
-
--- a query with a capital in a name has a place
-pub capital_in_place : (ts : List Token) → have_capitals (names ts) ≡ true → place_count ts ≡ 0 → ⊥
-capital_in_place ts capital none =
-    let no_names : names ts ≡ [] = nil_from_length (names ts) (omega (arith, none, place_count-sum ts)) in
-    let never : have_capitals [] ≡ true = sym (ap have_capitals no_names) ∙ capital in
-    cc
 
 -- .. and the table itself
 pub made_anywhere : (query : List ℕ) → IsTakenAnywhere query → (head : TableHead) (old new : List PlaceSpan) (outcome : Outcome) →

@@ -28,7 +28,6 @@ pub mod FragmentsAnywhereLemmas
 pub mod FragmentInPlaceLemmas
 pub mod FragmentsInPlaceLemmas
 pub mod PlacedLemmas
-pub mod UnportableNumberLemmas
 pub mod FormKindsLemmas
 pub mod FormCauseLemmas
 pub mod UnbracketedLemmas

@@ -1,19 +1,14 @@
 -- Texts with steady literals in a room of the caller.
-use Rattle.std.specs.Prelude.{Bool, false, true, Option, Ok, option_map, Result, Err, OnErr}
+use Rattle.std.specs.Prelude.{Bool, false, true, Option, Ok, option_map}
 use Rattle.std.specs.Option.{option_or}
 use Rattle.std.proofs.Common.{◌≡◌, ℕ, List, Some, None, ap, length, take, refl, sym, ◌∙◌, subst, arith}
 use Rattle.std.proofs.lemmas.List.{length-take-le}
 use Rattle.mysql_named_params.specs.LoweredNames.{lower_names}
-use Rattle.mysql_named_params.specs.Tokens.{Token, OnTokens}
+use Rattle.mysql_named_params.specs.Tokens.{Token}
 use Rattle.mysql_named_params.specs.Reading.{IsTokensIn, OnTokensIn, grammar_reading, reading_with, wide_reading}
-use Rattle.mysql_named_params.specs.WideNames.{widened}
-use Rattle.mysql_named_params.proofs.TokensExistLemmas.{tokens_exist}
-use Rattle.mysql_portable.specs.Clear.{is_clear}
 use Rattle.mysql_portable.specs.FirstUnportable.{first_unportable}
-use Rattle.mysql_portable.specs.Steady.{first_unsteady, IsSteady}
+use Rattle.mysql_portable.specs.Steady.{first_unsteady}
 use Rattle.mysql_portable.specs.declared.portable.Unportable.{Unportable}
-use Rattle.mysql_portable.proofs.ClearLemmas.{clear_has_none, clear_query_is_steady}
-use Rattle.mysql_portable.proofs.ClearLoweredLemmas.{clear_wide_is_portable}
 use Rattle.mysql_portable.proofs.SteadyLemmas.{none_unsteady, steady_other}
 use Rattle.mysql_portable.proofs.UnportableLemmas.{none_is_portable}
 use Rattle.mysql_params_core.specs.Given.{Given}
@@ -26,19 +21,27 @@ use Rattle.mysql_binding.proofs.CauseLemmas.{on_both}
 use Rattle.mysql_binding.proofs.TextInRoomLemmas.{each_in_room, known_text}
 use Rattle.mysql_steady_text.specs.SteadyLiteral.{steady_literal_of}
 use Rattle.mysql_steady_text.specs.FirstBackslash.{first_backslash}
+use Rattle.mysql_steady_text.specs.Purposes as purposes
+use Rattle.mysql_steady_text.specs.Purposes.{reading_for}
+use Rattle.mysql_steady_text.specs.declared.purpose.Purpose.{Purpose}
+use Rattle.mysql_steady_text.specs.declared.purpose.QueryRefusal.{QueryRefusal}
+use Rattle.mysql_steady_text.specs.declared.purpose.QueryRefusal.TheVariants as refusal
 use Rattle.mysql_steady_text.specs.SteadyLiterals.{IsSteadyFor}
 use Rattle.mysql_steady_text.specs.SteadyText.{IsSteadyText}
 use Rattle.mysql_steady_text.specs.WideBothModes.{IsWideTextInBothModes}
-use Rattle.mysql_steady_text.proofs.BackslashLemmas.{hold_no_escapes, steady_has_none}
+use Rattle.mysql_steady_text.proofs.BackslashLemmas.{hold_no_escapes}
 use Rattle.mysql_steady_text.proofs.BothModesAnswerLemmas.{Agree, portable_answer}
 use Rattle.mysql_steady_text.proofs.BothModesTextLemmas.{in_both_modes}
-use Rattle.mysql_steady_text.proofs.SteadyTextLemmas.{is_anywhere_text, no_escapes_of, steady_given}
-use Rattle.mysql_steady_text.proofs.WideBothModesLemmas.{agree_of_wide, clear_both, first_backslash-widened, in_each_reading, in_each_wide, is_wide_both, is_wide_text}
+use Rattle.mysql_steady_text.proofs.PurposeLemmas.{steady_agree}
+use Rattle.mysql_steady_text.proofs.QueryRefusalLemmas as refused
+use Rattle.mysql_steady_text.proofs.QueryRefusalLemmas.{agreed, first_told, judged_anywhere, judged_in_both}
+use Rattle.mysql_steady_text.proofs.SteadyTextLemmas.{is_anywhere_text, steady_given}
+use Rattle.mysql_steady_text.proofs.WideBothModesLemmas.{agree_of_wide, in_each_wide, is_wide_both, is_wide_text}
 use Rattle.mysql_steady_text.proofs.WideSteadyLemmas.{is_steady_text_in, is_wide_anywhere_text, wide_other}
 use Rattle.mysql_flat_params.specs.FlatForm.{IsFormReading}
 use Rattle.mysql_flat_params.specs.Outcomes.{IfDone, text_outcome}
 use Rattle.mysql_flat_params.specs.SteadyIntoRoom.{IsSteadyForm, IsSteadyOutcomeIn, unportable_outcome}
-use Rattle.mysql_flat_params.specs.Steadiness.{IsBoundAs, byte_refusal, refusal_as}
+use Rattle.mysql_flat_params.specs.Steadiness.{IsBoundAs, purpose_of, refusal_as, refusal_outcome}
 use Rattle.mysql_flat_params.specs.declared.steady_room.Steadiness.{Steadiness}
 use Rattle.mysql_flat_params.specs.declared.steady_room.Steadiness.TheVariants.{Anywhere, BothModes}
 use Rattle.mysql_flat_params.specs.declared.outcome.Outcome.{Outcome}
@@ -53,65 +56,49 @@ none_told f (Some at) found e = cc
 none_told f None (Some found) e = cc
 none_told f None None e = (refl, refl)
 
--- the modes agree on a query that is steady, and on one without a backslash in its strings
-pub agree_without_unsteady : (query : List ℕ) → IsSteady query → Agree query
-agree_without_unsteady query steady = let t = tokens_exist true query in (t.0, t.1, no_escapes_of true query t.0 steady t.1)
+mapped : (f : ℕ → QueryRefusal) (byte : Option ℕ) (found : Option Unportable) →
+    option_map refusal_outcome (first_told f byte found) ≡ option_or (option_map (λ at. refusal_outcome (f at)) byte) (option_map unportable_outcome found)
+mapped f (Some at) found = refl
+mapped f None (Some found) = refl
+mapped f None None = refl
 
--- the outcome for a byte, of the tokens with wide names too
-pub byte_told : (wide : Bool) (steadiness : Steadiness) (query : List ℕ) (told : Option Outcome) →
-    ((mode : Bool) → OnTokens mode query (λ ts. told ≡ byte_refusal steadiness query ts)) → (mode : Bool) →
-    OnTokensIn (reading_with wide mode) query (λ ts. told ≡ byte_refusal steadiness query ts)
-byte_told false steadiness query told t mode = t mode
-byte_told true Anywhere query told t mode = let o = t mode in (widened o.0, (o.0, o.1, refl), o.2)
-byte_told true BothModes query told t mode =
+-- the refusal of a query for the purpose of a call
+abbrev IsToldFor : List ℕ → Option QueryRefusal → Purpose → Type 0
+IsToldFor query told purpose = (mode : Bool) → OnTokensIn (reading_for purpose mode) query (λ ts. told ≡ purposes.query_refusal purpose query ts)
+
+outcome_for : (wide : Bool) (steadiness : Steadiness) (query : List ℕ) (told : Option QueryRefusal) → IsToldFor query told (purpose_of wide steadiness) → (mode : Bool) →
+    OnTokensIn (reading_with wide mode) query (λ ts. option_map refusal_outcome told ≡ refusal_as wide steadiness query ts)
+outcome_for false Anywhere query told t mode =
+    let o = judged_anywhere mode query told (t mode) in
+    (o.0, o.1, ap (option_map refusal_outcome) o.2 ∙ mapped refusal.Unsteady (first_unsteady query) (first_unportable o.0))
+outcome_for false BothModes query told t mode =
+    let o = judged_in_both mode query told (t mode) in
+    (o.0, o.1, ap (option_map refusal_outcome) o.2 ∙ mapped refusal.Backslash (first_backslash o.0) (first_unportable o.0))
+outcome_for true Anywhere query told t mode =
     let o = t mode in
-    (widened o.0, (o.0, o.1, refl), o.2 ∙ ap (option_map variant.Backslash) (sym (first_backslash-widened o.0)))
+    (o.0, o.1, ap (option_map refusal_outcome) o.2 ∙ mapped refusal.Unsteady (first_unsteady query) (first_unportable (lower_names o.0)))
+outcome_for true BothModes query told t mode =
+    let o = t mode in
+    (o.0, o.1, ap (option_map refusal_outcome) o.2 ∙ mapped refusal.Backslash (first_backslash o.0) (first_unportable (lower_names o.0)))
 
--- no outcome for a byte, and the first construct that isn't portable, or none, in each mode
-pub both_told : (wide : Bool) (steadiness : Steadiness) (query : List ℕ) (told : Option Outcome) (P : List Token → Type 0) →
-    ((mode : Bool) → OnTokens mode query (λ ts. told ≡ byte_refusal steadiness query ts)) → Agree query → told ≡ None →
-    OnTokensIn (reading_with wide true) query P → (mode : Bool) →
-    OnTokensIn (reading_with wide mode) query (λ ts. (byte_refusal steadiness query ts ≡ None) × P ts)
-both_told wide steadiness query told P t agreed none f mode =
-    let o = on_both (reading_with wide mode) query (λ ts. told ≡ byte_refusal steadiness query ts) P (byte_told wide steadiness query told t mode)
-    (in_each_reading wide query P agreed f mode) in
-    (o.0, o.1, (sym o.2.0 ∙ none, o.2.1))
+agree_for : (wide : Bool) (steadiness : Steadiness) (query : List ℕ) → IsToldFor query None (purpose_of wide steadiness) → Agree query
+agree_for wide Anywhere query t =
+    let o = t true in
+    steady_agree query ((none_unsteady query).0 (refused.none_told refusal.Unsteady (first_unsteady query) (first_unportable (lower_names o.0)) o.2).0)
+agree_for false BothModes query t = agreed query None refl (t true)
+agree_for true BothModes query t =
+    let o = t true in
+    agree_of_wide query o.0 o.1 (refused.none_told refusal.Backslash (first_backslash o.0) (first_unportable (lower_names o.0)) o.2).0
 
--- a fact that holds also holds on an error
-pub said_on_err : {T E P : Type 0} (r : Result T E) → P → OnErr r P
-said_on_err (Ok x) p = tt
-said_on_err (Err e) p = p
+module _ (wide : Bool) (steadiness : Steadiness) (query : List ℕ) (told : Option QueryRefusal) (purpose : Purpose) (is : purpose ≡ purpose_of wide steadiness) (t : IsToldFor query told purpose) where
+  -- the outcome for the refusal, if there is one
+  pub outcome_told : (wanted : Option QueryRefusal) → told ≡ wanted → (mode : Bool) →
+      OnTokensIn (reading_with wide mode) query (λ ts. option_map refusal_outcome wanted ≡ refusal_as wide steadiness query ts)
+  outcome_told wanted e = outcome_for wide steadiness query wanted (subst (λ r. IsToldFor query r (purpose_of wide steadiness)) e (subst (IsToldFor query told) is t))
 
--- a clear query is refused for nothing, by wide names or by those of the grammar
-clear_told_anywhere : (wide : Bool) (query : List ℕ) → is_clear query ≡ true → (mode : Bool) →
-    OnTokensIn (reading_with wide mode) query (λ ts. None ≡ refusal_as wide Anywhere query ts)
-clear_told_anywhere false query c mode =
-    let t = tokens_exist mode query in
-    let steady = (none_unsteady query).1 (clear_query_is_steady false query c) in
-    let portable = clear_has_none false mode query t.0 t.1 c in
-    (t.0, t.1, rw steady (rw portable refl))
-clear_told_anywhere true query c mode =
-    let o = clear_wide_is_portable mode query c in
-    let steady = (none_unsteady query).1 (clear_query_is_steady false query c) in
-    let portable = o.2.1 in
-    (o.0, o.1, rw steady (rw portable refl))
-
-clear_told_both : (wide : Bool) (query : List ℕ) → is_clear query ≡ true → (mode : Bool) →
-    OnTokensIn (reading_with wide mode) query (λ ts. None ≡ refusal_as wide BothModes query ts)
-clear_told_both false query c mode =
-    let t = steady_has_none query (clear_query_is_steady false query c) mode in
-    let portable = clear_has_none false mode query t.0 t.1 c in
-    (t.0, t.1, rw (sym t.2) (rw portable refl))
-clear_told_both true query c mode =
-    let o = clear_both query c mode in
-    let backslash = o.2.0 in
-    let portable = o.2.1 in
-    (o.0, o.1, rw backslash (rw portable refl))
-
-pub clear_told : (wide : Bool) (steadiness : Steadiness) (query : List ℕ) → is_clear query ≡ true → (mode : Bool) →
-    OnTokensIn (reading_with wide mode) query (λ ts. None ≡ refusal_as wide steadiness query ts)
-clear_told wide Anywhere query c mode = clear_told_anywhere wide query c mode
-clear_told wide BothModes query c mode = clear_told_both wide query c mode
+  -- the modes agree on a query that isn't refused
+  pub agree_told : told ≡ None → Agree query
+  agree_told e = agree_for wide steadiness query (subst (λ r. IsToldFor query r (purpose_of wide steadiness)) e (subst (IsToldFor query told) is t))
 
 -- ---- the text
 

@@ -2,8 +2,7 @@
 -- a text for any mode and any server, or for both modes and any server. The query with its names in
 -- lower case has to be portable.
 use Rattle.std.specs.Prelude.{ℕ, Bool, true, false, List, Option, option_map}
-use Rattle.mysql_named_params.specs.LoweredNames.{have_capitals, lower_names}
-use Rattle.mysql_named_params.specs.NamesAndMarks.{names}
+use Rattle.mysql_named_params.specs.LoweredNames.{lower_names}
 use Rattle.mysql_named_params.specs.Reading.{OnWideTokens}
 use Rattle.mysql_named_params.specs.Tokens.{Token}
 use Rattle.mysql_portable.specs.Steady.{first_unsteady}
@@ -19,11 +18,6 @@ use Rattle.mysql_flat_params.specs.declared.outcome.Outcome.TheVariants.{Unstead
 abbrev pub portable_tokens : (wide : Bool) → List Token → List Token
 portable_tokens false ts = ts
 portable_tokens true ts = lower_names ts
-
--- the query is copied for the test whether it is portable
-abbrev pub is_copied : (wide : Bool) → List Token → Bool
-is_copied false ts = false
-is_copied true ts = have_capitals (names ts)
 
 -- ---- for any mode and any server
 

@@ -1,7 +1,5 @@
 //! A table of a query that is bound for any mode and any server, and binding by it.
-ghost use Rattle.std.specs.Prelude.{◌≡◌, ◌⊎◌, ◌≤◌, ◌<◌, ℕ, Bool, false, true, [], Some, length, take, drop};
-ghost use Rattle.mysql_named_params.specs.LoweredNames.{have_capitals};
-ghost use Rattle.mysql_named_params.specs.Places.{names};
+ghost use Rattle.std.specs.Prelude.{◌≡◌, ◌⊎◌, ◌≤◌, ◌<◌, ℕ, Bool, true, [], Some, length, take, drop};
 ghost use Rattle.mysql_named_params.specs.Reading.{OnWideTokens, wide_reading};
 ghost use Rattle.mysql_portable.specs.Steady.{first_unsteady};
 ghost use Rattle.mysql_flat_params.specs.AnywhereTable.{HasAnywhereTable, IsAnywhereBindOutcome, IsAnywhereTableOutcome, IsGuardedBindOutcome, IsMadeAnywhereTable, any_template};
@@ -15,7 +13,7 @@ ghost use Rattle.mysql_flat_params.specs.declared.outcome.Outcome as outcome;
 
 use crate::outcome::Outcome;
 use crate::place_table::{TableHead, TableOutcome, table_into_read};
-use crate::steady_room::{WIDE_ANYWHERE, query_refusal};
+use crate::steady_room::{WIDE_ANYWHERE, query_outcome};
 use crate::table_literals::{AnywhereLiterals, bind_by_table_with};
 use mysql_binding::PlaceSpan;
 use mysql_named_params::places::Reading;
@@ -44,8 +42,7 @@ pub struct AnywhereTemplate<'q> {
 /// the front of the room. The query can then be bound by it many times.
 ///
 /// `Unsteady` and `Unportable` are those that `bind_wide_anywhere_into` returns. They come before
-/// all else, except that `OutOfMemory` may come in place of `Unportable` if a name has a capital.
-/// Everything else is as for [`table_into`](crate::table_into).
+/// all else. Everything else is as for [`table_into`](crate::table_into).
 pub fn wide_anywhere_table_into(
     alloc: Global,
     query: &[u8],
@@ -54,22 +51,20 @@ pub fn wide_anywhere_table_into(
 ) -> Outcome
     ensures outcome { IsAnywhereTableOutcome query.now result }
 
-    // These are refused without allocating, the latter if no name has a capital.
+    // These are refused without allocating.
     ensures unsteady { (at : ℕ) → first_unsteady query.now ≡ Some at →
         result ≡ Outcome.Unsteady at }
     ensures refused { (mode : Bool) → OnWideTokens mode query.now (λ ts.
-        have_capitals (names ts) ≡ false → (told : outcome.Outcome) →
-        wide_anywhere_refusal query.now ts ≡ Some told → result ≡ told) }
+        (told : outcome.Outcome) → wide_anywhere_refusal query.now ts ≡ Some told → result ≡ told) }
     ensures made { outcomes.IfDone result
         (IsMadeAnywhereTable query.now head.new room.old room.new) }
     ensures too_long { outcomes.IfTooLong result (λ len. length room.old < len) }
     ensures unchanged { outcomes.UnlessDone result
         ((head.new ≡ head.old) × (room.new ≡ room.old)) }
 {
-    match query_refusal(alloc, query, WIDE_ANYWHERE) {
-        Ok(None) => table_into_read(alloc, query, WIDE_READING, head, room),
-        Ok(Some(outcome)) => outcome,
-        Err(_) => Outcome::OutOfMemory,
+    match query_outcome(query, WIDE_ANYWHERE) {
+        None => table_into_read(alloc, query, WIDE_READING, head, room),
+        Some(outcome) => outcome,
     }
 }
 

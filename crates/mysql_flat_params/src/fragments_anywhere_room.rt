@@ -23,7 +23,7 @@ use crate::fragments_room::kept_outcome;
 use crate::into_room::{form_outcome, text_outcome};
 use crate::outcome::Outcome;
 use crate::placed::placed_fragments;
-use crate::steady_room::{Steadiness, SteadyCall, query_refusal};
+use crate::steady_room::{Steadiness, SteadyCall, query_outcome};
 use crate::unbracketed::form_error;
 use mysql_binding::{KEPT_PLACES, NO_PLACE, SurveyedQuery, TextInRoom};
 use mysql_fragments::{FragmentRef, FragmentsError, bind_placed_into, first_unsteady_fragment};
@@ -129,10 +129,8 @@ pub(crate) fn bind_form_anywhere(
         steadiness: Steadiness::Anywhere,
         wide_names: call.wide_names(),
     };
-    match query_refusal(alloc, query, steady) {
-        Ok(None) => {}
-        Ok(Some(outcome)) => return FragmentsOutcome::AsValues(outcome),
-        Err(_) => return FragmentsOutcome::AsValues(Outcome::OutOfMemory),
+    if let Some(outcome) = query_outcome(query, steady) {
+        return FragmentsOutcome::AsValues(outcome);
     }
     match bind_read_steady(alloc, query, &read, call, room) {
         Ok(text) => FragmentsOutcome::AsValues(text_outcome(text)),

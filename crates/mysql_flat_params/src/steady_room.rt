@@ -1,10 +1,8 @@
 //! Texts with steady literals, in a room of the caller.
-ghost use Rattle.std.specs.Prelude.{◌≡◌, ◌⊎◌, ◌≤◌, ◌<◌, ℕ, Bool, false, true, [], None, Some, Ok, length, take, drop, IfErr, IfOk, IfSome, IsErrOf, OnErr, option_map};
-ghost use Rattle.mysql_named_params.specs.LoweredNames.{have_capitals};
-ghost use Rattle.mysql_named_params.specs.Places.{HasMark, HasName, names};
+ghost use Rattle.std.specs.Prelude.{◌≡◌, ◌⊎◌, ◌≤◌, ◌<◌, ℕ, Bool, true, [], None, Some, length, take, drop, IfErr, IfOk, IfSome, IsErrOf, OnErr};
+ghost use Rattle.mysql_named_params.specs.Places.{HasMark, HasName};
 ghost use Rattle.mysql_named_params.specs.Reading.{OnTokensIn, OnWideTokens, reading_with};
 ghost use Rattle.mysql_named_params.specs.Tokens.{OnTokens};
-ghost use Rattle.mysql_portable.specs.FirstUnportable.{first_unportable};
 ghost use Rattle.mysql_portable.specs.Steady.{first_unsteady, HoldNoEscapes};
 ghost use Rattle.mysql_binding.specs.BindErrors.{IsCauseOrMemory};
 ghost use Rattle.mysql_binding.specs.FirstCause.{first_cause};
@@ -19,9 +17,9 @@ ghost use Rattle.mysql_flat_params.specs.BothModesIntoRoom.{IsBothModesForm, IsB
 ghost use Rattle.mysql_flat_params.specs.FlatForm.{HasFirstParameter};
 ghost use Rattle.mysql_flat_params.specs.FormParams.{given_in_place};
 ghost use Rattle.mysql_flat_params.specs.Outcomes.{HasNoAnswer, IfDone, IfTooLong, UnlessDone};
-ghost use Rattle.mysql_flat_params.specs.Steadiness.{IsBoundAs, byte_refusal, refusal_as};
-ghost use Rattle.mysql_flat_params.specs.SteadyIntoRoom.{IsSteadyForm, IsSteadyOutcomeIn, unportable_outcome};
-ghost use Rattle.mysql_flat_params.specs.WideSteadyIntoRoom.{IsWideAnywhereForm, IsWideAnywhereOutcome, IsWideBothModesForm, IsWideBothModesOutcome, is_copied, portable_tokens, wide_anywhere_refusal, wide_both_modes_refusal};
+ghost use Rattle.mysql_flat_params.specs.Steadiness.{IsBoundAs, byte_refusal, purpose_of, refusal_as, refusal_outcome, scope_of};
+ghost use Rattle.mysql_flat_params.specs.SteadyIntoRoom.{IsSteadyForm, IsSteadyOutcomeIn};
+ghost use Rattle.mysql_flat_params.specs.WideSteadyIntoRoom.{IsWideAnywhereForm, IsWideAnywhereOutcome, IsWideBothModesForm, IsWideBothModesOutcome, wide_anywhere_refusal, wide_both_modes_refusal};
 ghost use Rattle.mysql_flat_params.specs.declared.outcome.Outcome as outcome;
 
 use crate::form::form_params;
@@ -35,13 +33,9 @@ use mysql_binding::{
     BindError, KEPT_PLACES, NO_PLACE, SurveyedQuery, TextInRoom, bind_surveyed_into,
 };
 use mysql_named_params::places::Reading;
-use mysql_portable::clear::is_clear;
-use mysql_portable::portable::{Unportable, first_unportable};
-use mysql_portable::steady::first_unsteady;
-use mysql_portable::wide::first_unportable_wide;
 use mysql_steady_text::SteadyForm;
-use mysql_steady_text::first_backslash::first_backslash;
-use std::alloc::{AllocError, Global};
+use mysql_steady_text::purpose::{Portability, Purpose, QueryRefusal, Scope, query_refusal};
+use std::alloc::Global;
 
 // The text and the names of each call.
 const ANYWHERE: SteadyCall = SteadyCall {
@@ -133,22 +127,19 @@ pub fn bind_in_both_modes_into(alloc: Global, query: &[u8], form: &[u8], room: &
 /// [`bind_anywhere_into`] by wide names: it binds as
 /// [`bind_wide_anywhere`](mysql_steady_text::bind_wide_anywhere) does.
 ///
-/// Everything else is as for [`bind_anywhere_into`], except that over the empty form `Unportable`
-/// and `Mixed` may be `OutOfMemory` instead if a name has a capital.
+/// Everything else is as for [`bind_anywhere_into`].
 pub fn bind_wide_anywhere_into(alloc: Global, query: &[u8], form: &[u8], room: &mut [u8]) -> Outcome
     ensures outcome { IsWideAnywhereOutcome query.now form.now result }
     ensures written { IfDone result (λ len.
         IsWideAnywhereForm query.now form.now (take len room.new)) }
 
-    // Over the empty form these are refused without allocating, the latter two if no name has a
-    // capital.
+    // Over the empty form these are refused without allocating.
     ensures unsteady { (at : ℕ) → form.now ≡ [] → first_unsteady query.now ≡ Some at →
         result ≡ Outcome.Unsteady at }
     ensures refused { (mode : Bool) → OnWideTokens mode query.now (λ ts. form.now ≡ [] →
-        have_capitals (names ts) ≡ false → (told : outcome.Outcome) →
-        wide_anywhere_refusal query.now ts ≡ Some told → result ≡ told) }
+        (told : outcome.Outcome) → wide_anywhere_refusal query.now ts ≡ Some told → result ≡ told) }
     ensures mixed { (mode : Bool) → OnWideTokens mode query.now (λ ts. form.now ≡ [] →
-        have_capitals (names ts) ≡ false → wide_anywhere_refusal query.now ts ≡ None →
+        wide_anywhere_refusal query.now ts ≡ None →
         HasName ts × HasMark ts → result ≡ Outcome.Mixed) }
 
     // A form that is refused for its first parameter is refused without allocating.
@@ -177,15 +168,13 @@ pub fn bind_wide_in_both_modes_into(
     ensures written { IfDone result (λ len.
         IsWideBothModesForm query.now form.now (take len room.new)) }
 
-    // Over the empty form these are refused without allocating, the latter two if no name has a
-    // capital.
+    // Over the empty form these are refused without allocating.
     ensures backslash { (mode : Bool) → OnWideTokens mode query.now (λ ts. (at : ℕ) →
         form.now ≡ [] → first_backslash ts ≡ Some at → result ≡ Outcome.Backslash at) }
     ensures refused { (mode : Bool) → OnWideTokens mode query.now (λ ts. form.now ≡ [] →
-        have_capitals (names ts) ≡ false → (told : outcome.Outcome) →
-        wide_both_modes_refusal ts ≡ Some told → result ≡ told) }
+        (told : outcome.Outcome) → wide_both_modes_refusal ts ≡ Some told → result ≡ told) }
     ensures mixed { (mode : Bool) → OnWideTokens mode query.now (λ ts. form.now ≡ [] →
-        have_capitals (names ts) ≡ false → wide_both_modes_refusal ts ≡ None →
+        wide_both_modes_refusal ts ≡ None →
         HasName ts × HasMark ts → result ≡ Outcome.Mixed) }
 
     // A form that is refused for its first parameter is refused without allocating.
@@ -236,11 +225,10 @@ fn bind_steady_into(
         result ≡ told) }
     ensures refused { (mode : Bool) →
         OnTokensIn (reading_with call.wide_names mode) query.now (λ ts. form.now ≡ [] →
-        is_copied call.wide_names ts ≡ false → (told : outcome.Outcome) →
+        (told : outcome.Outcome) →
         refusal_as call.wide_names call.steadiness query.now ts ≡ Some told → result ≡ told) }
     ensures mixed { (mode : Bool) →
         OnTokensIn (reading_with call.wide_names mode) query.now (λ ts. form.now ≡ [] →
-        is_copied call.wide_names ts ≡ false →
         refusal_as call.wide_names call.steadiness query.now ts ≡ None →
         HasName ts × HasMark ts → result ≡ Outcome.Mixed) }
     ensures memory { result ≡ Outcome.OutOfMemory →
@@ -254,10 +242,8 @@ fn bind_steady_into(
         Ok(params) => params,
         Err(error) => return form_outcome(error),
     };
-    match query_refusal(alloc, query, call) {
-        Ok(None) => {}
-        Ok(Some(outcome)) => return outcome,
-        Err(_) => return Outcome::OutOfMemory,
+    if let Some(outcome) = query_outcome(query, call) {
+        return outcome;
     }
 
     // A query that isn't refused has the same tokens in both modes, so it is read in one of them.
@@ -272,98 +258,52 @@ fn bind_steady_into(
 }
 
 /// The outcome for a query that is refused with any parameters. If there is none, the modes agree
-/// on the query. Memory is allocated only for a query that is copied.
-pub(crate) fn query_refusal(
-    alloc: Global,
-    query: &[u8],
-    call: SteadyCall,
-) -> Result<Option<Outcome>, AllocError>
-    ensures told { IfOk result (λ told. (mode : Bool) →
+/// on the query. It allocates nothing.
+pub(crate) fn query_outcome(query: &[u8], call: SteadyCall) -> Option<Outcome>
+    ensures told { (mode : Bool) →
         OnTokensIn (reading_with call.wide_names mode) query.now (λ ts.
-        told ≡ refusal_as call.wide_names call.steadiness query.now ts)) }
-    ensures agree { IfOk result (λ told. told ≡ None → OnTokens true query.now HoldNoEscapes) }
-    ensures no_answer { IfOk result (λ told. IfSome told HasNoAnswer) }
-    ensures memory { OnErr result ((mode : Bool) →
-        OnTokensIn (reading_with call.wide_names mode) query.now (λ ts.
-        (byte_refusal call.steadiness query.now ts ≡ None)
-        × (is_copied call.wide_names ts ≡ true))) }
+        result ≡ refusal_as call.wide_names call.steadiness query.now ts) }
+    ensures agree { result ≡ None → OnTokens true query.now HoldNoEscapes }
+    ensures no_answer { IfSome result HasNoAnswer }
 {
-    // Most queries of ASCII pass in one walk, with capitals or without.
-    if is_clear(query) {
-        return Ok(None);
-    }
-    refusal_by_walks(alloc, query, call)
-}
-
-// The same refusal, by a walk over the bytes and one over the tokens of the query.
-fn refusal_by_walks(
-    alloc: Global,
-    query: &[u8],
-    call: SteadyCall,
-) -> Result<Option<Outcome>, AllocError>
-    ensures told { IfOk result (λ told. (mode : Bool) →
-        OnTokensIn (reading_with call.wide_names mode) query.now (λ ts.
-        told ≡ refusal_as call.wide_names call.steadiness query.now ts)) }
-    ensures agree { IfOk result (λ told. told ≡ None → OnTokens true query.now HoldNoEscapes) }
-    ensures no_answer { IfOk result (λ told. IfSome told HasNoAnswer) }
-    ensures memory { OnErr result ((mode : Bool) →
-        OnTokensIn (reading_with call.wide_names mode) query.now (λ ts.
-        (byte_refusal call.steadiness query.now ts ≡ None)
-        × (is_copied call.wide_names ts ≡ true))) }
-{
-    if let Some(outcome) = byte_refusal(query, call.steadiness) {
-        return Ok(Some(outcome));
-    }
-    let found = first_unportable_by(alloc, query, call.wide_names)?;
-    Ok(unportable_outcome(found))
-}
-
-// The outcome for a construct, if one was found.
-fn unportable_outcome(found: Option<Unportable>) -> Option<Outcome>
-    ensures { result ≡ option_map unportable_outcome found }
-{
-    match found {
-        Some(found) => Some(Outcome::Unportable {
-            number: construct_number(found.construct),
-            position: found.at,
-        }),
+    match query_refusal(query, purpose_of(call)) {
+        Some(refusal) => Some(refusal_outcome(refusal)),
         None => None,
     }
 }
 
-// The first construct for which a query isn't portable, by wide names or by those of the grammar.
-fn first_unportable_by(
-    alloc: Global,
-    query: &[u8],
-    wide_names: bool,
-) -> Result<Option<Unportable>, AllocError>
-    ensures first { IfOk result (λ found. OnTokensIn (reading_with wide_names true) query.now (λ ts.
-        found ≡ first_unportable (portable_tokens wide_names ts))) }
-    ensures memory { OnErr result (OnTokensIn (reading_with wide_names true) query.now (λ ts.
-        is_copied wide_names ts ≡ true)) }
+// The purpose of a call. Its texts are for all servers.
+fn purpose_of(call: SteadyCall) -> Purpose
+    ensures { result ≡ purpose_of call.wide_names call.steadiness }
 {
-    if wide_names {
-        first_unportable_wide(alloc, query, true)
-    } else {
-        Ok(first_unportable(query, true))
+    Purpose {
+        scope: scope_of(call.steadiness),
+        portability: Portability::Servers,
+        wide_names: call.wide_names,
     }
 }
 
-// The refusal of a query for a byte of it. If there is none, the modes agree on it.
-fn byte_refusal(query: &[u8], steadiness: Steadiness) -> Option<Outcome>
-    ensures told { (mode : Bool) → OnTokens mode query.now (λ ts.
-        result ≡ byte_refusal steadiness query.now ts) }
-    ensures agree { result ≡ None → OnTokens true query.now HoldNoEscapes }
-    ensures no_answer { IfSome result HasNoAnswer }
+// The connections in which such a text is read the same.
+fn scope_of(steadiness: Steadiness) -> Scope
+    ensures { result ≡ scope_of steadiness }
 {
     match steadiness {
-        Steadiness::Anywhere => match first_unsteady(query) {
-            Some(position) => Some(Outcome::Unsteady { position }),
-            None => None,
-        },
-        Steadiness::BothModes => match first_backslash(query) {
-            Some(position) => Some(Outcome::Backslash { position }),
-            None => None,
+        Steadiness::Anywhere => Scope::AnyConnection,
+        Steadiness::BothModes => Scope::EitherMode,
+    }
+}
+
+// The outcome for a refusal of the query.
+fn refusal_outcome(refusal: QueryRefusal) -> Outcome
+    ensures value { result ≡ refusal_outcome refusal }
+    ensures no_answer { HasNoAnswer result }
+{
+    match refusal {
+        QueryRefusal::Unsteady { at } => Outcome::Unsteady { position: at },
+        QueryRefusal::Backslash { at } => Outcome::Backslash { position: at },
+        QueryRefusal::Unportable(found) => Outcome::Unportable {
+            number: construct_number(found.construct),
+            position: found.at,
         },
     }
 }

@@ -1,7 +1,6 @@
 //! The first construct for which a query isn't portable, as a number and a report.
-ghost use Rattle.std.specs.Prelude.{◌≡◌, ◌≢◌, ◌↔◌, true, pos, negsuc, None};
-ghost use Rattle.mysql_named_params.specs.LoweredNames.{have_capitals, lower_names};
-ghost use Rattle.mysql_named_params.specs.Places.{names};
+ghost use Rattle.std.specs.Prelude.{◌≡◌, ◌↔◌, pos, None};
+ghost use Rattle.mysql_named_params.specs.LoweredNames.{lower_names};
 ghost use Rattle.mysql_named_params.specs.Reading.{OnWideTokens};
 ghost use Rattle.mysql_named_params.specs.Tokens.{OnTokens};
 ghost use Rattle.mysql_portable.specs.FirstUnportable.{first_unportable};
@@ -10,10 +9,10 @@ ghost use Rattle.mysql_portable.specs.Portable.{IsPortable};
 ghost use Rattle.mysql_flat_params.specs.UnportableReport.{construct_number, unportable_number, unportable_report};
 
 use crate::outcome::{NO_FIELDS, Report};
+use mysql_named_params::places::Reading;
 use mysql_portable::client::first_unportable_in_client;
 use mysql_portable::portable::{Construct, Unportable, first_unportable};
-use mysql_portable::wide::{first_unportable_in_client_wide, first_unportable_wide};
-use std::alloc::Global;
+use mysql_portable::wide::{first_unportable_in, first_unportable_in_client_in};
 
 /// Finds the first construct for which a query isn't portable, as [`first_unportable`] does in a
 /// mode. It returns the number of the construct, and writes its position to the report. It returns
@@ -56,63 +55,45 @@ pub fn report_first_unportable_in_client(
     )
 }
 
-/// Finds the first construct for which a query with wide names isn't portable, as
-/// [`first_unportable_wide`] does in a mode, and reports it as [`report_first_unportable`] does.
-///
-/// It returns -1, with a report of zeros, if memory is refused for a copy of the query. Only a
-/// query with a capital in a name is copied.
+/// [`report_first_unportable`] of a query with wide names, as [`first_unportable_in`] finds it.
 pub fn report_first_unportable_wide(
-    alloc: Global,
     query: &[u8],
     no_backslash_escape: bool,
     report: &mut Report,
 ) -> i32
-    ensures number { result ≢ negsuc 0 → OnWideTokens no_backslash_escape query.now (λ ts.
+    ensures number { OnWideTokens no_backslash_escape query.now (λ ts.
         result ≡ pos (unportable_number (first_unportable (lower_names ts)))) }
-    ensures report { result ≢ negsuc 0 → OnWideTokens no_backslash_escape query.now (λ ts.
+    ensures report { OnWideTokens no_backslash_escape query.now (λ ts.
         report.new ≡ unportable_report (first_unportable (lower_names ts))) }
-    ensures portable { result ≢ negsuc 0 → OnWideTokens no_backslash_escape query.now (λ ts.
+    ensures portable { OnWideTokens no_backslash_escape query.now (λ ts.
         (result ≡ pos 0) ↔ IsPortable (lower_names ts)) }
-    ensures memory { result ≡ negsuc 0 → (report.new ≡ unportable_report None)
-        × OnWideTokens no_backslash_escape query.now (λ ts. have_capitals (names ts) ≡ true) }
 {
-    match first_unportable_wide(alloc, query, no_backslash_escape) {
-        Ok(found) => number_and_report(found, report),
-        Err(_) => out_of_memory(report),
-    }
+    let reading = Reading {
+        no_backslash_escape,
+        wide_names: true,
+    };
+    number_and_report(first_unportable_in(query, reading), report)
 }
 
-/// Finds the first construct for which a query with wide names isn't portable on servers and in a
-/// client that keeps comments, as [`first_unportable_in_client_wide`] does in a mode. It is
-/// reported as by [`report_first_unportable_wide`].
+/// [`report_first_unportable_in_client`] of a query with wide names, as
+/// [`first_unportable_in_client_in`] finds it.
 pub fn report_first_unportable_in_client_wide(
-    alloc: Global,
     query: &[u8],
     no_backslash_escape: bool,
     report: &mut Report,
 ) -> i32
-    ensures number { result ≢ negsuc 0 → OnWideTokens no_backslash_escape query.now (λ ts.
+    ensures number { OnWideTokens no_backslash_escape query.now (λ ts.
         result ≡ pos (unportable_number (first_unportable_in_client (lower_names ts)))) }
-    ensures report { result ≢ negsuc 0 → OnWideTokens no_backslash_escape query.now (λ ts.
+    ensures report { OnWideTokens no_backslash_escape query.now (λ ts.
         report.new ≡ unportable_report (first_unportable_in_client (lower_names ts))) }
-    ensures portable { result ≢ negsuc 0 → OnWideTokens no_backslash_escape query.now (λ ts.
+    ensures portable { OnWideTokens no_backslash_escape query.now (λ ts.
         (result ≡ pos 0) ↔ IsPortableInClient (lower_names ts)) }
-    ensures memory { result ≡ negsuc 0 → (report.new ≡ unportable_report None)
-        × OnWideTokens no_backslash_escape query.now (λ ts. have_capitals (names ts) ≡ true) }
 {
-    match first_unportable_in_client_wide(alloc, query, no_backslash_escape) {
-        Ok(found) => number_and_report(found, report),
-        Err(_) => out_of_memory(report),
-    }
-}
-
-// The number for refused memory, and a report of zeros.
-fn out_of_memory(report: &mut Report) -> i32
-    ensures number { result ≡ negsuc 0 }
-    ensures report { report.new ≡ unportable_report None }
-{
-    *report = NO_FIELDS;
-    -1
+    let reading = Reading {
+        no_backslash_escape,
+        wide_names: true,
+    };
+    number_and_report(first_unportable_in_client_in(query, reading), report)
 }
 
 // The number of the construct that was found, and its report; 0 and zeros if none was.

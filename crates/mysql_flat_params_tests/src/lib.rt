@@ -30,6 +30,8 @@ mod outcomes;
 #[cfg(test)]
 mod portable;
 #[cfg(test)]
+mod purposes;
+#[cfg(test)]
 mod rooms;
 #[cfg(test)]
 mod rows;

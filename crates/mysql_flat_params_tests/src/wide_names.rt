@@ -241,12 +241,12 @@ fn steady_fragments_by_capitals(rt: HostRuntime) {
 #[test]
 fn constructs_by_capitals(rt: HostRuntime) {
     let mut report = Outcome::Mixed.report();
-    let number = report_first_unportable_wide(rt.alloc(), QUERY, false, &mut report);
+    let number = report_first_unportable_wide(QUERY, false, &mut report);
     same_in(&rt, number, 0, &QUERY);
     let hint = b"SELECT /*+ SET_VAR(x=:ID) */ 1";
-    let number = report_first_unportable_wide(rt.alloc(), hint, false, &mut report);
+    let number = report_first_unportable_wide(hint, false, &mut report);
     same_in(&rt, (number, report.position), (2, 7), &hint);
     let dash = b"-:ID";
-    let number = report_first_unportable_in_client_wide(rt.alloc(), dash, false, &mut report);
+    let number = report_first_unportable_in_client_wide(dash, false, &mut report);
     same_in(&rt, (number, report.position), (14, 0), &dash);
 }

@@ -21,6 +21,7 @@ mod DoubleTokenLemmas
 mod FragmentListLemmas
 pub mod SteadyPartLemmas
 pub mod SteadyFragmentLemmas
+pub mod RefusedQueryLemmas
 pub mod GuardedFragmentLemmas
 pub mod WideFragmentLemmas
 pub mod SaidSteadyLemmas

@@ -23,7 +23,7 @@ use Rattle.mysql_fragments.specs.FragmentText.{all_values, fragment_text, mark_n
 use Rattle.mysql_fragments.specs.GivenFragments.{GivenFragments}
 use Rattle.mysql_fragments.specs.SteadyFragments.{IsSteadyFragments}
 use Rattle.mysql_fragments.specs.SteadyFragmentsErrors.{IsSteadyRefusal}
-use Rattle.mysql_fragments.specs.WideSteadyFragments.{IsWideAnywhereFragments, IsWideSteadyRefusal}
+use Rattle.mysql_fragments.specs.WideSteadyFragments.{IsWideAnywhereFragments}
 use Rattle.mysql_fragments.specs.declared.steady_fragments_error.SteadyFragmentsError.{SteadyFragmentsError}
 use Rattle.mysql_fragments.proofs.ExpandedLemmas.{expanded_alone, expanded_shapes}
 use Rattle.mysql_fragments.proofs.SplicedFragmentLemmas.{as_many, fragments_on, fragments_portable}
@@ -87,10 +87,3 @@ wide_anywhere_fragments items (Ok text) query given steady p b mode =
     let o = on_both (wide_reading false) query (λ ts. IsPortable (lower_names ts)) (λ ts. IsSteadyFragments ts given (items text)) p (b false) in
     (o.0, wide_other false mode query o.0 steady o.1, is_wide_anywhere query o.0 given (items text) o.1 steady o.2.0 o.2.1)
 wide_anywhere_fragments items (Err e) query given steady p b mode = wide_nothing mode query
-
--- a refusal is one of those that may also be out of memory
-pub or_memory : {A : Type 0} (r : Result A SteadyFragmentsError) (mode : Bool) (query : List ℕ) (given : GivenFragments) (unportable : List Token → Option Unportable) →
-    OnWideTokens mode query (λ ts. IfErr r (IsSteadyRefusal query (unportable ts) ts given)) →
-    OnWideTokens mode query (λ ts. IfErr r (IsWideSteadyRefusal query (unportable ts) ts given))
-or_memory (Ok text) mode query given unportable o = o
-or_memory (Err e) mode query given unportable o = (o.0, o.1, inr o.2)

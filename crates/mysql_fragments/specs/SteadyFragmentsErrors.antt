@@ -4,6 +4,8 @@ use Rattle.mysql_named_params.specs.Tokens.{Token}
 use Rattle.mysql_named_params.specs.NamesAndMarks.{names}
 use Rattle.mysql_portable.specs.Steady.{first_unsteady}
 use Rattle.mysql_portable.specs.declared.portable.Unportable.{Unportable}
+use Rattle.mysql_steady_text.specs.declared.purpose.QueryRefusal.{QueryRefusal}
+use Rattle.mysql_steady_text.specs.declared.purpose.QueryRefusal.TheVariants as refusal
 use Rattle.mysql_fragments.specs.FragmentErrors.{first_cause, IsCauseOrMemory}
 use Rattle.mysql_fragments.specs.GivenFragments.{GivenFragments, fragments_for}
 use Rattle.mysql_fragments.specs.SteadyFragments.{unsteady_place}
@@ -30,3 +32,9 @@ IsSteadyRefusal query unportable ts given (error.Unportable found) =
     (first_unsteady query ≡ None) × (unportable ≡ Some found)
 IsSteadyRefusal query unportable ts given error = (first_unsteady query ≡ None)
     × (unportable ≡ None) × IsFragmentsRefusal ts given error
+
+-- the error for a query that is refused for a purpose; a backslash is a byte that isn't steady
+abbrev pub steady_fragments_error : QueryRefusal → SteadyFragmentsError
+steady_fragments_error (refusal.Unsteady at) = Unsteady at
+steady_fragments_error (refusal.Backslash at) = Unsteady at
+steady_fragments_error (refusal.Unportable found) = error.Unportable found

@@ -1,19 +1,13 @@
--- The promises about a text with fragments by wide names, for any mode and any server, and the
--- causes of its errors. The query with its names in lower case has to be portable, as for values
--- (WideAnywhere.antt of mysql_steady_text). The law `anywhere_fragments_on_servers` says how every
--- server reads the text.
-use Rattle.std.specs.Prelude.{◌≡◌, ◌⊎◌, ℕ, List, Option, alloc_error}
+-- The promises about a text with fragments by wide names, for any mode and any server. The query
+-- with its names in lower case has to be portable, as for values (WideAnywhere.antt of
+-- mysql_steady_text). The law `anywhere_fragments_on_servers` says how every server reads the text.
+use Rattle.std.specs.Prelude.{ℕ, List}
 use Rattle.mysql_named_params.specs.LoweredNames.{lower_names}
 use Rattle.mysql_named_params.specs.Tokens.{Token}
 use Rattle.mysql_portable.specs.Portable.{IsPortable}
-use Rattle.mysql_portable.specs.declared.portable.Unportable.{Unportable}
 use Rattle.mysql_binding.specs.Replaced.{with_literal_tokens}
 use Rattle.mysql_fragments.specs.GivenFragments.{GivenFragments}
 use Rattle.mysql_fragments.specs.SteadyFragments.{IsSteadyFragments}
-use Rattle.mysql_fragments.specs.SteadyFragmentsErrors.{IsSteadyRefusal}
-use Rattle.mysql_fragments.specs.declared.fragments_error.FragmentsError.TheVariants.{Memory}
-use Rattle.mysql_fragments.specs.declared.steady_fragments_error.SteadyFragmentsError.{SteadyFragmentsError}
-use Rattle.mysql_fragments.specs.declared.steady_fragments_error.SteadyFragmentsError.TheVariants.{Fragments}
 
 -- the text, for any mode and any server, of a query with these tokens, wide names among them, and
 -- the fragments that are given to it
@@ -25,10 +19,3 @@ pub record IsWideAnywhereFragments (ts : List Token) (given : GivenFragments) (t
   pub portable : IsPortable (lower_names ts)
   pub portable_text : IsPortable (with_literal_tokens
       (with_literal_tokens ts steady_text.expanded.lists) steady_text.bound.literal_tokens)
-
--- The error is the first cause that holds, as without wide names, or out of memory. Memory may also
--- be refused for the copy of the query in lower case.
-abbrev pub IsWideSteadyRefusal : List ℕ → Option Unportable → List Token → GivenFragments
-    → SteadyFragmentsError → Type 0
-IsWideSteadyRefusal query unportable ts given error =
-    (error ≡ Fragments (Memory alloc_error)) ⊎ IsSteadyRefusal query unportable ts given error

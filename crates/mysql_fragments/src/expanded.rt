@@ -176,7 +176,7 @@ pub fn expanded_for_literals(
 }
 
 /// The body of [`bind_fragments_in`], for a query in any reading.
-pub(crate) fn bound_fragments(
+pub fn bound_fragments(
     alloc: Global,
     query: &[u8],
     fragments: &Fragments,
@@ -222,7 +222,7 @@ pub(crate) fn expanded(
 
 /// References to the fragments for the places of a query in a reading. It refuses for the causes of
 /// [`expanded_query_in`] and, with `as_literals`, for those of [`bind_fragments_in`].
-pub(crate) fn placed_fragments<'f>(
+pub fn placed_fragments<'f>(
     alloc: Global,
     query: &[u8],
     fragments: &'f Fragments,

@@ -19,7 +19,7 @@ use mysql_named_params::places::{Reading, first_place_in};
 use std::alloc::{AllocError, Global};
 
 /// The query with these fragments in its places and the literals of their values in a form.
-pub(crate) fn filled_query<F: LiteralForm>(
+pub fn filled_query<F: LiteralForm>(
     alloc: Global,
     query: &[u8],
     fragments: &[&Fragment],

@@ -1,26 +1,24 @@
 //! Queries with fragments in the places of wide names, and values in guarded literals.
-ghost use Rattle.std.specs.Prelude.{◌≡◌, false, ℕ, Bool, None, Some, IfErr, IfOk, IsErrOf};
-ghost use Rattle.mysql_named_params.specs.LoweredNames.{have_capitals, lower_names};
-ghost use Rattle.mysql_named_params.specs.Places.{HasMark, HasName, names};
+ghost use Rattle.std.specs.Prelude.{◌≡◌, ℕ, Bool, None, Some, IfErr, IfOk, IsErrOf};
+ghost use Rattle.mysql_named_params.specs.LoweredNames.{lower_names};
+ghost use Rattle.mysql_named_params.specs.Places.{HasMark, HasName};
 ghost use Rattle.mysql_named_params.specs.Reading.{OnWideTokens};
 ghost use Rattle.mysql_portable.specs.FirstUnportable.{first_unportable};
 ghost use Rattle.mysql_portable.specs.Steady.{first_unsteady, IsSteady};
 ghost use Rattle.mysql_portable.specs.declared.portable.Unportable as unportable;
 ghost use Rattle.mysql_fragments.specs.GivenFragments.{given_fragments};
 ghost use Rattle.mysql_fragments.specs.GuardedFragments.{IsGuardedFragments, IsGuardedOnServers};
-ghost use Rattle.mysql_fragments.specs.SteadyFragmentsErrors.{IsFragmentsRefusal};
-ghost use Rattle.mysql_fragments.specs.WideSteadyFragments.{IsWideSteadyRefusal};
+ghost use Rattle.mysql_fragments.specs.SteadyFragmentsErrors.{IsFragmentsRefusal, IsSteadyRefusal};
 
 use crate::expanded::placed_fragments;
 use crate::filled::filled_query;
 use crate::fragment::Fragments;
 use crate::fragments_error::FragmentsError;
-use crate::steady_fragments_error::SteadyFragmentsError;
+use crate::steady_fragments_error::{SteadyFragmentsError, steady_fragments_error};
 use crate::unsteady::first_unsteady_place;
 use mysql_named_params::places::Reading;
-use mysql_portable::steady::first_unsteady;
-use mysql_portable::wide::first_unportable_wide;
 use mysql_steady_text::GuardedForm;
+use mysql_steady_text::purpose::{WIDE_ANYWHERE, query_refusal};
 use std::alloc::Global;
 
 /// The query with a fragment in the place of each wide name and mark, its values as guarded
@@ -41,26 +39,22 @@ pub fn bind_wide_fragments_guarded(
     ensures bound { (mode : Bool) → OnWideTokens mode query.now (λ ts. IfOk result (λ text.
         IsGuardedOnServers no_backslash_escape ts (given_fragments fragments.now) text.items)) }
     ensures refused { (mode : Bool) → OnWideTokens mode query.now (λ ts. IfErr result
-        (IsWideSteadyRefusal query.now (first_unportable (lower_names ts)) ts
+        (IsSteadyRefusal query.now (first_unportable (lower_names ts)) ts
         (given_fragments fragments.now))) }
 
-    // These are refused without allocating, the latter two if no name has a capital.
+    // These are refused without allocating.
     ensures unsteady { (at : ℕ) → first_unsteady query.now ≡ Some at →
         IsErrOf result (SteadyFragmentsError.Unsteady at) }
     ensures unportable { (mode : Bool) → OnWideTokens mode query.now (λ ts. IsSteady query.now →
-        have_capitals (names ts) ≡ false → (found : unportable.Unportable) →
-        first_unportable (lower_names ts) ≡ Some found →
+        (found : unportable.Unportable) → first_unportable (lower_names ts) ≡ Some found →
         IsErrOf result (SteadyFragmentsError.Unportable found)) }
     ensures mixed { (mode : Bool) → OnWideTokens mode query.now (λ ts. IsSteady query.now →
-        have_capitals (names ts) ≡ false → first_unportable (lower_names ts) ≡ None →
+        first_unportable (lower_names ts) ≡ None →
         HasName ts × HasMark ts →
         IsErrOf result (SteadyFragmentsError.Fragments FragmentsError.Mixed)) }
 {
-    if let Some(at) = first_unsteady(query) {
-        return Err(SteadyFragmentsError::Unsteady { at });
-    }
-    match first_unportable_wide(alloc, query, false)? {
-        Some(found) => Err(SteadyFragmentsError::Unportable(found)),
+    match query_refusal(query, WIDE_ANYWHERE) {
+        Some(refusal) => Err(steady_fragments_error(refusal)),
         None => bind_guarded_fragments(alloc, query, fragments, no_backslash_escape),
     }
 }

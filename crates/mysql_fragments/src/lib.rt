@@ -41,9 +41,10 @@ mod written;
 
 pub use bound_refs::{bind_borrowed_fragments, bind_borrowed_fragments_into};
 pub use expanded::{
-    ExpandedQuery, bind_fragments, bind_fragments_in, expanded_for_literals, expanded_query,
-    expanded_query_in,
+    ExpandedQuery, bind_fragments, bind_fragments_in, bound_fragments, expanded_for_literals,
+    expanded_query, expanded_query_in, placed_fragments,
 };
+pub use filled::filled_query;
 pub use fragment::{ColumnAssignment, Fragment, Fragments, Item, Keyword};
 pub use fragment_ref::FragmentRef;
 pub use fragments_error::{FragmentFault, FragmentsError};
@@ -51,9 +52,11 @@ pub use guarded_fragments::bind_wide_fragments_guarded;
 pub use mysql_binding::TextInRoom;
 pub use placed_refs::{bind_placed_into, placed_error};
 pub use rows_ref::RowsRef;
-pub use steady_fragments::{bind_fragments_anywhere, bind_fragments_in_any_mode};
+pub use steady_fragments::{
+    bind_fragments_anywhere, bind_fragments_in_any_mode, bind_steady_fragments,
+};
 pub use steady_fragments_error::SteadyFragmentsError;
-pub use unsteady::first_unsteady_fragment;
+pub use unsteady::{first_unsteady_fragment, first_unsteady_place};
 pub use wide::{
     bind_wide_borrowed_fragments, bind_wide_borrowed_fragments_into, bind_wide_fragments,
     bind_wide_fragments_in, expanded_wide_query_in,

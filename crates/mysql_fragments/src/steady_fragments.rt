@@ -14,12 +14,12 @@ use crate::expanded::placed_fragments;
 use crate::filled::filled_query;
 use crate::fragment::Fragments;
 use crate::fragments_error::FragmentsError;
-use crate::steady_fragments_error::SteadyFragmentsError;
+use crate::steady_fragments_error::{SteadyFragmentsError, steady_fragments_error};
 use crate::unsteady::first_unsteady_place;
 use mysql_named_params::places::Reading;
-use mysql_portable::portable::first_unportable;
 use mysql_portable::steady::first_unsteady;
 use mysql_steady_text::SteadyForm;
+use mysql_steady_text::purpose::{ANYWHERE, query_refusal};
 use std::alloc::Global;
 
 /// The query with a fragment in the place of each name and mark, its values as steady literals:
@@ -67,13 +67,10 @@ pub fn bind_fragments_anywhere(
         first_unportable ts ≡ None → HasName ts × HasMark ts →
         IsErrOf result (SteadyFragmentsError.Fragments FragmentsError.Mixed)) }
 {
-    if let Some(at) = first_unsteady(query) {
-        return Err(SteadyFragmentsError::Unsteady { at });
+    match query_refusal(query, ANYWHERE) {
+        Some(refusal) => Err(steady_fragments_error(refusal)),
+        None => bind_steady_fragments(alloc, query, fragments, false),
     }
-    if let Some(found) = first_unportable(query, false) {
-        return Err(SteadyFragmentsError::Unportable(found));
-    }
-    bind_steady_fragments(alloc, query, fragments, false)
 }
 
 /// [`bind_fragments_anywhere`] for a query that is meant for one server: the query needn't be
@@ -104,7 +101,7 @@ pub fn bind_fragments_in_any_mode(
 
 /// The text of a steady query, by wide names or by those of the grammar. Such a query has the same
 /// tokens in both modes. The error is `Fragments` or `UnsteadyFragment`.
-pub(crate) fn bind_steady_fragments(
+pub fn bind_steady_fragments(
     alloc: Global,
     query: &[u8],
     fragments: &Fragments,

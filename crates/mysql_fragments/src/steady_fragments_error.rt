@@ -1,6 +1,10 @@
 //! Why a query and fragments give no steady text.
+ghost use Rattle.std.specs.Prelude.{◌≡◌};
+ghost use Rattle.mysql_fragments.specs.SteadyFragmentsErrors.{steady_fragments_error};
+
 use crate::fragments_error::FragmentsError;
 use mysql_portable::portable::Unportable;
+use mysql_steady_text::purpose::QueryRefusal;
 use std::alloc::AllocError;
 use thiserror::Error;
 
@@ -52,5 +56,16 @@ impl From<AllocError> for SteadyFragmentsError {
 
     fn from(error: AllocError) -> SteadyFragmentsError {
         SteadyFragmentsError::Fragments(FragmentsError::Memory(error))
+    }
+}
+
+/// The error for a query that is refused. A backslash is a byte that isn't steady.
+pub(crate) fn steady_fragments_error(refusal: QueryRefusal) -> SteadyFragmentsError
+    ensures { result ≡ steady_fragments_error refusal }
+{
+    match refusal {
+        QueryRefusal::Unsteady { at } => SteadyFragmentsError::Unsteady { at },
+        QueryRefusal::Backslash { at } => SteadyFragmentsError::Unsteady { at },
+        QueryRefusal::Unportable(found) => SteadyFragmentsError::Unportable(found),
     }
 }

@@ -13,7 +13,7 @@ use crate::fragment_ref::FragmentRef;
 use mysql_portable::steady::first_unsteady;
 
 /// The place of the first fragment whose text isn't steady.
-pub(crate) fn first_unsteady_place(fragments: &[&Fragment]) -> Option<usize>
+pub fn first_unsteady_place(fragments: &[&Fragment]) -> Option<usize>
     ensures { result ≡ first_unsteady_from 0 (referents fragments.now) }
 {
     for (place, fragment) in fragments.iter().enumerate() {

@@ -1,7 +1,7 @@
 //! Queries with fragments in the places of wide names, and values in steady literals.
-ghost use Rattle.std.specs.Prelude.{◌≡◌, false, ℕ, Bool, None, Some, IfErr, IfOk, IsErrOf};
-ghost use Rattle.mysql_named_params.specs.LoweredNames.{have_capitals, lower_names};
-ghost use Rattle.mysql_named_params.specs.Places.{HasMark, HasName, names};
+ghost use Rattle.std.specs.Prelude.{◌≡◌, ℕ, Bool, None, Some, IfErr, IfOk, IsErrOf};
+ghost use Rattle.mysql_named_params.specs.LoweredNames.{lower_names};
+ghost use Rattle.mysql_named_params.specs.Places.{HasMark, HasName};
 ghost use Rattle.mysql_named_params.specs.Reading.{OnWideTokens};
 ghost use Rattle.mysql_portable.specs.FirstUnportable.{first_unportable};
 ghost use Rattle.mysql_portable.specs.Steady.{first_unsteady, IsSteady};
@@ -9,23 +9,22 @@ ghost use Rattle.mysql_portable.specs.declared.portable.Unportable as unportable
 ghost use Rattle.mysql_fragments.specs.GivenFragments.{given_fragments};
 ghost use Rattle.mysql_fragments.specs.SteadyFragments.{IsSteadyFragments};
 ghost use Rattle.mysql_fragments.specs.SteadyFragmentsErrors.{IsSteadyRefusal};
-ghost use Rattle.mysql_fragments.specs.WideSteadyFragments.{IsWideAnywhereFragments, IsWideSteadyRefusal};
+ghost use Rattle.mysql_fragments.specs.WideSteadyFragments.{IsWideAnywhereFragments};
 
 use crate::fragment::Fragments;
 use crate::fragments_error::FragmentsError;
 use crate::steady_fragments::bind_steady_fragments;
-use crate::steady_fragments_error::SteadyFragmentsError;
+use crate::steady_fragments_error::{SteadyFragmentsError, steady_fragments_error};
 use mysql_portable::steady::first_unsteady;
-use mysql_portable::wide::first_unportable_wide;
+use mysql_steady_text::purpose::{WIDE_ANYWHERE, query_refusal};
 use std::alloc::Global;
 
 /// [`bind_fragments_anywhere`](crate::bind_fragments_anywhere) by wide names, as
 /// [`bind_wide_fragments_in`](crate::bind_wide_fragments_in) reads them. The query with its names
 /// in lower case has to be portable:
-/// [`first_unportable_wide`](mysql_portable::wide::first_unportable_wide) finds nothing in it.
+/// [`first_unportable_in`](mysql_portable::wide::first_unportable_in) finds nothing in the query.
 ///
-/// It refuses for the same causes in the same order. If a name has a capital, out of memory may
-/// also come in place of `Unportable`, and of the refusal of a query with names and marks.
+/// It refuses for the same causes in the same order.
 pub fn bind_wide_fragments_anywhere(
     alloc: Global,
     query: &[u8],
@@ -34,26 +33,22 @@ pub fn bind_wide_fragments_anywhere(
     ensures bound { (mode : Bool) → OnWideTokens mode query.now (λ ts. IfOk result (λ text.
         IsWideAnywhereFragments ts (given_fragments fragments.now) text.items)) }
     ensures refused { (mode : Bool) → OnWideTokens mode query.now (λ ts. IfErr result
-        (IsWideSteadyRefusal query.now (first_unportable (lower_names ts)) ts
+        (IsSteadyRefusal query.now (first_unportable (lower_names ts)) ts
         (given_fragments fragments.now))) }
 
-    // These are refused without allocating, the latter two if no name has a capital.
+    // These are refused without allocating.
     ensures unsteady { (at : ℕ) → first_unsteady query.now ≡ Some at →
         IsErrOf result (SteadyFragmentsError.Unsteady at) }
     ensures unportable { (mode : Bool) → OnWideTokens mode query.now (λ ts. IsSteady query.now →
-        have_capitals (names ts) ≡ false → (found : unportable.Unportable) →
-        first_unportable (lower_names ts) ≡ Some found →
+        (found : unportable.Unportable) → first_unportable (lower_names ts) ≡ Some found →
         IsErrOf result (SteadyFragmentsError.Unportable found)) }
     ensures mixed { (mode : Bool) → OnWideTokens mode query.now (λ ts. IsSteady query.now →
-        have_capitals (names ts) ≡ false → first_unportable (lower_names ts) ≡ None →
+        first_unportable (lower_names ts) ≡ None →
         HasName ts × HasMark ts →
         IsErrOf result (SteadyFragmentsError.Fragments FragmentsError.Mixed)) }
 {
-    if let Some(at) = first_unsteady(query) {
-        return Err(SteadyFragmentsError::Unsteady { at });
-    }
-    match first_unportable_wide(alloc, query, false)? {
-        Some(found) => Err(SteadyFragmentsError::Unportable(found)),
+    match query_refusal(query, WIDE_ANYWHERE) {
+        Some(refusal) => Err(steady_fragments_error(refusal)),
         None => bind_steady_fragments(alloc, query, fragments, true),
     }
 }

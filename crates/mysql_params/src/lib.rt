@@ -12,6 +12,10 @@
 //! values, and each of these calls has two such calls beside it. [`bind_wide`] and the calls with
 //! `wide` in their names take names with capitals.
 //!
+//! [`bind`] is one call for all of this. A [`Purpose`] says for which connections, servers and
+//! clients the text is, and which names are read. It binds parameters, pairs, values by position,
+//! a sorted map, or fragments.
+//!
 //! [`bind_text_guarded`] writes text that has the connection's collation. In each mode, and over
 //! each character set of a client, no value leaves its literal.
 //!
@@ -35,15 +39,19 @@ pub mod laws;
 pub mod named_params;
 pub mod params;
 
+pub use mysql_bind_call::{
+    BindRefusal, ByPosition, Portability, Purpose, QueryRefusal, Scope, append, bind, bind_into,
+};
 pub use mysql_binding::{
     BindError, BindPairsError, ParsedQuery, TextInRoom, WideQuery, bind_pairs, bind_pairs_into,
     bind_text, bind_text_in, bind_values, bind_values_into, bind_wide, bind_wide_in,
     bind_wide_pairs, bind_wide_pairs_into, bind_wide_values, bind_wide_values_into,
 };
+pub use mysql_named_params::places::Reading;
 pub use mysql_portable::client::first_unportable_in_client;
 pub use mysql_portable::portable::{Construct, Unportable, first_unportable};
 pub use mysql_portable::steady::first_unsteady;
-pub use mysql_portable::wide::{first_unportable_in_client_wide, first_unportable_wide};
+pub use mysql_portable::wide::{first_unportable_in, first_unportable_in_client_in};
 pub use mysql_query_core::{RunError, run, words_of};
 pub use mysql_steady_text::{
     BothModesError, BothModesPairsError, SteadyPairsError, SteadyTextError, bind_pairs_anywhere,

@@ -2,6 +2,6 @@
 //! of `mysql_params_core::params`, re-exported by name.
 
 pub use mysql_params_core::params::{
-    IntoPositionalError, MissingNamedParameterError, Params, ParamsConfusionError, ParamsError,
-    ToName, ToPairs, ToParams, ToParamsError,
+    IntoPositionalError, MissingNamedParameterError, NamedPairs, Params, ParamsConfusionError,
+    ParamsError, ToName, ToPairs, ToParams, ToParamsError,
 };

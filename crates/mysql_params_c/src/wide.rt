@@ -1,5 +1,5 @@
 //! Exports for queries with wide names, which may have capitals.
-ghost use Rattle.std.specs.Prelude.{◌≡◌, ◌≢◌, ◌⊎◌, ◌↔◌, ◌+◌, ◌≤◌, ◌<◌, ℕ, Bool, false, true, [], Some, None, length, take, drop, pos, negsuc};
+ghost use Rattle.std.specs.Prelude.{◌≡◌, ◌≢◌, ◌⊎◌, ◌↔◌, ◌+◌, ◌≤◌, ◌<◌, ℕ, Bool, true, [], Some, None, length, take, drop, pos};
 ghost use Rattle.mysql_flat_params.specs.AnywhereTable.{IsAnywhereBindOutcome, IsAnywhereTableOf, IsAnywhereTableOutcome, IsGuardedBindOutcome, IsMadeAnywhereTable};
 ghost use Rattle.mysql_flat_params.specs.BoundRows.{AreBoundRowsIn, IsRowsOutcomeIn};
 ghost use Rattle.mysql_flat_params.specs.FlatForm.{HasFirstParameter};
@@ -14,7 +14,7 @@ ghost use Rattle.mysql_flat_params.specs.PlaceTable.{IsMadeTableIn, IsTableBindO
 ghost use Rattle.mysql_flat_params.specs.UnportableReport.{unportable_number, unportable_report};
 ghost use Rattle.mysql_flat_params.specs.WideSteadyIntoRoom.{IsWideAnywhereForm, IsWideAnywhereOutcome, IsWideBothModesForm, IsWideBothModesOutcome, wide_anywhere_refusal, wide_both_modes_refusal};
 ghost use Rattle.mysql_flat_params.specs.declared.outcome.Outcome as outcome;
-ghost use Rattle.mysql_named_params.specs.LoweredNames.{have_capitals, lower_names};
+ghost use Rattle.mysql_named_params.specs.LoweredNames.{lower_names};
 ghost use Rattle.mysql_named_params.specs.Places.{marks, names, HasMark, HasName};
 ghost use Rattle.mysql_named_params.specs.Reading.{OnWideTokens, wide_reading};
 ghost use Rattle.mysql_portable.specs.FirstUnportable.{first_unportable};
@@ -268,8 +268,7 @@ pub extern "C" fn mysql_params_bind_fragments_wide(
 /// [`mysql_params_bind_anywhere`](crate::mysql_params_bind_anywhere) by wide names:
 /// [`bind_wide_anywhere_into`](mysql_flat_params::bind_wide_anywhere_into).
 ///
-/// Numbers, report and room are the same, except that over the empty form 16 (`Unportable`) and 8
-/// (`Mixed`) may be 1 (`OutOfMemory`) instead if a name has a capital.
+/// Numbers, report and room are the same.
 #[unsafe(no_mangle)]
 pub extern "C" fn mysql_params_bind_anywhere_wide(
     alloc: Global,
@@ -282,15 +281,14 @@ pub extern "C" fn mysql_params_bind_anywhere_wide(
     ensures written { result ≡ pos 0 →
         IsWideAnywhereForm query.now form.now (take report.new.len room.new) }
 
-    // Over the empty form these are refused without allocating, the latter two if no name has a
-    // capital.
+    // Over the empty form these are refused without allocating.
     ensures unsteady { (at : ℕ) → form.now ≡ [] → first_unsteady query.now ≡ Some at →
         result ≡ pos 15 }
     ensures refused { (mode : Bool) → OnWideTokens mode query.now (λ ts. form.now ≡ [] →
-        have_capitals (names ts) ≡ false → (told : outcome.Outcome) →
-        wide_anywhere_refusal query.now ts ≡ Some told → result ≡ pos (number_of told)) }
+        (told : outcome.Outcome) → wide_anywhere_refusal query.now ts ≡ Some told →
+        result ≡ pos (number_of told)) }
     ensures mixed { (mode : Bool) → OnWideTokens mode query.now (λ ts. form.now ≡ [] →
-        have_capitals (names ts) ≡ false → wide_anywhere_refusal query.now ts ≡ None →
+        wide_anywhere_refusal query.now ts ≡ None →
         HasName ts × HasMark ts → result ≡ pos 8) }
 
     // A form that is refused for its first parameter is refused without allocating.
@@ -310,8 +308,7 @@ pub extern "C" fn mysql_params_bind_anywhere_wide(
 /// with [`mysql_params_bind_template_anywhere_wide`].
 ///
 /// Numbers, report, head and room are the same, except that 15 (`Unsteady`) and 16 (`Unportable`)
-/// come first, with the reports of [`mysql_params_bind_anywhere_wide`]. 1 (`OutOfMemory`) may come
-/// in place of 16 if a name has a capital.
+/// come first, with the reports of [`mysql_params_bind_anywhere_wide`].
 #[unsafe(no_mangle)]
 pub extern "C" fn mysql_params_table_anywhere_wide(
     alloc: Global,
@@ -322,11 +319,11 @@ pub extern "C" fn mysql_params_table_anywhere_wide(
 ) -> i32
     ensures outcome { IsTold result report.new (IsAnywhereTableOutcome query.now) }
 
-    // These are refused without allocating, the latter if no name has a capital.
+    // These are refused without allocating.
     ensures unsteady { (at : ℕ) → first_unsteady query.now ≡ Some at → result ≡ pos 15 }
     ensures refused { (mode : Bool) → OnWideTokens mode query.now (λ ts.
-        have_capitals (names ts) ≡ false → (told : outcome.Outcome) →
-        wide_anywhere_refusal query.now ts ≡ Some told → result ≡ pos (number_of told)) }
+        (told : outcome.Outcome) → wide_anywhere_refusal query.now ts ≡ Some told →
+        result ≡ pos (number_of told)) }
     ensures made { result ≡ pos 0 →
         IsMadeAnywhereTable query.now head.new room.old room.new report.new.len }
     ensures too_long { result ≡ pos 2 → length room.old < report.new.len }
@@ -431,8 +428,7 @@ pub extern "C" fn mysql_params_bind_template_guarded_wide(
 /// [`mysql_params_bind_in_both_modes`](crate::mysql_params_bind_in_both_modes) by wide names:
 /// [`bind_wide_in_both_modes_into`](mysql_flat_params::bind_wide_in_both_modes_into).
 ///
-/// Numbers, report and room are the same, except that over the empty form 16 (`Unportable`) and 8
-/// (`Mixed`) may be 1 (`OutOfMemory`) instead if a name has a capital.
+/// Numbers, report and room are the same.
 #[unsafe(no_mangle)]
 pub extern "C" fn mysql_params_bind_in_both_modes_wide(
     alloc: Global,
@@ -445,15 +441,14 @@ pub extern "C" fn mysql_params_bind_in_both_modes_wide(
     ensures written { result ≡ pos 0 →
         IsWideBothModesForm query.now form.now (take report.new.len room.new) }
 
-    // Over the empty form these are refused without allocating, the latter two if no name has a
-    // capital.
+    // Over the empty form these are refused without allocating.
     ensures backslash { (mode : Bool) → OnWideTokens mode query.now (λ ts. (at : ℕ) →
         form.now ≡ [] → first_backslash ts ≡ Some at → result ≡ pos 18) }
     ensures refused { (mode : Bool) → OnWideTokens mode query.now (λ ts. form.now ≡ [] →
-        have_capitals (names ts) ≡ false → (told : outcome.Outcome) →
-        wide_both_modes_refusal ts ≡ Some told → result ≡ pos (number_of told)) }
+        (told : outcome.Outcome) → wide_both_modes_refusal ts ≡ Some told →
+        result ≡ pos (number_of told)) }
     ensures mixed { (mode : Bool) → OnWideTokens mode query.now (λ ts. form.now ≡ [] →
-        have_capitals (names ts) ≡ false → wide_both_modes_refusal ts ≡ None →
+        wide_both_modes_refusal ts ≡ None →
         HasName ts × HasMark ts → result ≡ pos 8) }
 
     // A form that is refused for its first parameter is refused without allocating.
@@ -526,47 +521,39 @@ pub extern "C" fn mysql_params_bind_fragments_guarded_wide(
 /// [`mysql_params_first_unportable`](crate::mysql_params_first_unportable) for a query with wide
 /// names: [`report_first_unportable_wide`].
 ///
-/// Number and report are the same, except that it returns -1, with a report of zeros, if memory is
-/// refused for a copy of the query. Only a query with a capital in a name is copied.
+/// Number and report are the same.
 #[unsafe(no_mangle)]
 pub extern "C" fn mysql_params_first_unportable_wide(
-    alloc: Global,
     query: &[u8],
     no_backslash_escape: bool,
     report: &mut Report,
 ) -> i32
-    ensures number { result ≢ negsuc 0 → OnWideTokens no_backslash_escape query.now (λ ts.
+    ensures number { OnWideTokens no_backslash_escape query.now (λ ts.
         result ≡ pos (unportable_number (first_unportable (lower_names ts)))) }
-    ensures report { result ≢ negsuc 0 → OnWideTokens no_backslash_escape query.now (λ ts.
+    ensures report { OnWideTokens no_backslash_escape query.now (λ ts.
         report.new ≡ unportable_report (first_unportable (lower_names ts))) }
-    ensures portable { result ≢ negsuc 0 → OnWideTokens no_backslash_escape query.now (λ ts.
+    ensures portable { OnWideTokens no_backslash_escape query.now (λ ts.
         (result ≡ pos 0) ↔ IsPortable (lower_names ts)) }
-    ensures memory { result ≡ negsuc 0 → (report.new ≡ unportable_report None)
-        × OnWideTokens no_backslash_escape query.now (λ ts. have_capitals (names ts) ≡ true) }
 {
-    report_first_unportable_wide(alloc, query, no_backslash_escape, report)
+    report_first_unportable_wide(query, no_backslash_escape, report)
 }
 
 /// [`mysql_params_first_unportable_in_client`](crate::mysql_params_first_unportable_in_client) for
 /// a query with wide names: [`report_first_unportable_in_client_wide`].
 ///
-/// Number and report are the same, except for -1, which comes as from
-/// [`mysql_params_first_unportable_wide`].
+/// Number and report are the same.
 #[unsafe(no_mangle)]
 pub extern "C" fn mysql_params_first_unportable_in_client_wide(
-    alloc: Global,
     query: &[u8],
     no_backslash_escape: bool,
     report: &mut Report,
 ) -> i32
-    ensures number { result ≢ negsuc 0 → OnWideTokens no_backslash_escape query.now (λ ts.
+    ensures number { OnWideTokens no_backslash_escape query.now (λ ts.
         result ≡ pos (unportable_number (first_unportable_in_client (lower_names ts)))) }
-    ensures report { result ≢ negsuc 0 → OnWideTokens no_backslash_escape query.now (λ ts.
+    ensures report { OnWideTokens no_backslash_escape query.now (λ ts.
         report.new ≡ unportable_report (first_unportable_in_client (lower_names ts))) }
-    ensures portable { result ≢ negsuc 0 → OnWideTokens no_backslash_escape query.now (λ ts.
+    ensures portable { OnWideTokens no_backslash_escape query.now (λ ts.
         (result ≡ pos 0) ↔ IsPortableInClient (lower_names ts)) }
-    ensures memory { result ≡ negsuc 0 → (report.new ≡ unportable_report None)
-        × OnWideTokens no_backslash_escape query.now (λ ts. have_capitals (names ts) ≡ true) }
 {
-    report_first_unportable_in_client_wide(alloc, query, no_backslash_escape, report)
+    report_first_unportable_in_client_wide(query, no_backslash_escape, report)
 }

@@ -250,7 +250,7 @@ name_same : (name : List ℕ) → IsName name → map to_ascii_lowercase name �
 name_same [] h = absurd h
 name_same (b ∷ bs) h = ap (λ c. c ∷ map to_ascii_lowercase bs) (start_same b h.0) ∙ ap (λ x. b ∷ x) (bytes_same bs h.1)
 
-grammar_lowered : (mode : Bool) (ts : List Token) → AreTokensBefore mode [] ts → lower_names ts ≡ ts
+pub grammar_lowered : (mode : Bool) (ts : List Token) → AreTokensBefore mode [] ts → lower_names ts ≡ ts
 grammar_lowered mode [] h = refl
 grammar_lowered mode (Name name ∷ ts) h =
     ap (λ x. Name x ∷ lower_names ts) (name_same name h.0.0) ∙ ap (λ us. Name name ∷ us) (grammar_lowered mode ts h.1)

@@ -67,7 +67,7 @@ const WRITTEN: &[(&str, (RowsRow, bool))] = cases! {
         &[b"START TRANSACTION\n;\n", b"(5)\n;\n", b"('it\\'s')\n;\n", b"COMMIT\n;\n"], None), true;
     "write_rows of a value and a name" =>
         (b"(:a)", &[NUMBER, NAME], STEADY, &[b"(5)\n;\n", b"(`n`)\n;\n"], None), false;
-    "write_rows of a refused query" => (b"?", &[NUMBER], STEADY, &[], Some("Query(Marks)")), true;
+    "write_rows of a refused query" => (b"(?)", &[NUMBER], STEADY, &[], Some("Query(Marks)")), true;
     "write_rows of a refused row" =>
         (b"(:a)", &[NUMBER, NO_NUMBER], STEADY, &[], REFUSED_SECOND), true;
 };

@@ -183,7 +183,7 @@ const ANYWHERE: &[(&str, BoundRow)] = cases! {
         b"f(:t)", IMPLICIT_BY_NAME, Err(UNBRACKETED), Asked;
 };
 
-/// The same, and the mode. A query with a capital in a name is copied.
+/// The same, and the mode.
 const GUARDED: &[(&str, (BoundRow, bool))] = cases! {
     "bind_wide_fragments_guarded_into of a text and a name" =>
         (b"? = ?", b"\0\x83\0\x01t\0\xFC\0\x05it's\\", Ok(b"`t` = 'it''s\\\\'"), Asked),

@@ -111,19 +111,18 @@ fn made_in_room(
     }
 }
 
-/// The same of a query for any mode and any server. One with a capital in a name is copied, unless
-/// one walk finds that nothing in it is in doubt.
+/// The same of a query for any mode and any server.
 const ANYWHERE_MADE: &[(&str, MadeRow)] = cases! {
     "wide_anywhere_table_into of names" =>
         b":Ab,:b", Told::Done { len: 2 }, WIDE_PLACES, Asked;
-    "wide_anywhere_table_into of a query that is copied" =>
+    "wide_anywhere_table_into of a query in doubt" =>
         b"SELECT /*+ MAX_EXECUTION_TIME(9) */ :A", Told::Done { len: 1 },
         &[PlaceSpan { before: 36, len: 2, }], Asked;
     "wide_anywhere_table_into of nothing" => b"':A'", Told::Done { len: 0 }, &[], Never;
     "wide_anywhere_table_into of a backslash" =>
         b":A '\\'", Told::Unsteady { position: 4 }, &[], Never;
     "wide_anywhere_table_into of a hint" => b"SELECT /*+ SET_VAR(x=:A) */ 1",
-        Told::Unportable { number: 2, position: 7, }, &[], Asked;
+        Told::Unportable { number: 2, position: 7, }, &[], Never;
     "wide_anywhere_table_into of a room that is too short" =>
         b":A,:A,:A", Told::Room { len: 3 }, &[], Never;
 };

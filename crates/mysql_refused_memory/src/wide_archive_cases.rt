@@ -4,9 +4,9 @@ use crate::flat_fragment_cases::written as fragments_written;
 use crate::outcome::Memory::{Asked, Never};
 use crate::outcome::{Case, Memory, Outcome, cases, row};
 use mysql_flat_params::{
-    FragmentsOutcome, Outcome as Told, Reading, Report, bind_fragments_into_read, bind_into_read,
+    FragmentsOutcome, Outcome as Told, Reading, bind_fragments_into_read, bind_into_read,
     bind_wide_anywhere_into, bind_wide_fragments_anywhere_into, bind_wide_in_both_modes_into,
-    names_into_read, report_first_unportable_in_client_wide, report_first_unportable_wide,
+    names_into_read,
 };
 use std::alloc::Global;
 
@@ -18,10 +18,7 @@ pub(crate) fn case(alloc: Global, name: &str) -> Option<Case> {
     if let Some(row) = row(FRAGMENTS, name) {
         return Some(Ok(fragments_bound(alloc, row)));
     }
-    if let Some(row) = row(NAMES, name) {
-        return Some(Ok(names_written(alloc, row)));
-    }
-    Some(Ok(reported(alloc, row(REPORTS, name)?)))
+    Some(Ok(names_written(alloc, row(NAMES, name)?)))
 }
 
 /// Which call binds, and the mode of one that takes it.
@@ -40,9 +37,7 @@ fn wide(no_backslash_escape: bool) -> Reading {
     }
 }
 
-/// A call, a query, a form, the answer or refusal, and whether the call asks for memory. One for
-/// any server or both modes asks for it before a refusal where it copies the query, for a capital
-/// in a name.
+/// A call, a query, a form, the answer or refusal, and whether the call asks for memory.
 type BoundRow = (Call, &'static [u8], &'static [u8], Wanted, Memory);
 
 /// The number -3 for `Ab`, and a text.
@@ -96,35 +91,35 @@ const BOUND: &[(&str, BoundRow)] = cases! {
         Call::Read(false), b"lbl:Ab", NUMBER, NOT_ALONE, Asked;
     "bind_wide_anywhere_into of a name with a capital" =>
         Call::Anywhere, b"= :Ab", TEXT, Ok(b"= _utf8mb4'it''s'"), Asked;
-    "bind_wide_anywhere_into of a query that is copied" =>
+    "bind_wide_anywhere_into of a query in doubt" =>
         Call::Anywhere, b"/*! */ :Ab", NUMBER, Ok(b"/*! */ -3"), Asked;
     "bind_wide_anywhere_into of a name without capitals" =>
         Call::Anywhere, b"/*! */ :ab", LOWER, Ok(b"/*! */ -3"), Asked;
     "bind_wide_anywhere_into of an unsteady query" =>
         Call::Anywhere, b"\\:Ab ?", b"", Err(Told::Unsteady { position: 0 }), Never;
     "bind_wide_anywhere_into of a query that is not portable" =>
-        Call::Anywhere, b"[:Ab ?", b"", BRACKET, Asked;
+        Call::Anywhere, b"[:Ab ?", b"", BRACKET, Never;
     "bind_wide_anywhere_into of a query that is not portable without capitals" =>
         Call::Anywhere, b"[:ab ?", b"", BRACKET, Never;
     "bind_wide_anywhere_into of names and marks" =>
-        Call::Anywhere, b"/*! */ :Ab ?", b"", Err(Told::Mixed), Asked;
+        Call::Anywhere, b"/*! */ :Ab ?", b"", Err(Told::Mixed), Never;
     "bind_wide_anywhere_into of names and marks without capitals" =>
         Call::Anywhere, b"/*! */ :ab ?", b"", Err(Told::Mixed), Never;
     "bind_wide_anywhere_into of a missing name" => Call::Anywhere, b":A", NUMBER, MISSING, Asked;
     "bind_wide_in_both_modes_into of a name with a capital" =>
         Call::BothModes, b"\xFF= :Ab", TEXT, Ok(b"\xFF= _utf8mb4'it''s'"), Asked;
-    "bind_wide_in_both_modes_into of a query that is copied" =>
+    "bind_wide_in_both_modes_into of a query in doubt" =>
         Call::BothModes, b"/*! */ :Ab", NUMBER, Ok(b"/*! */ -3"), Asked;
     "bind_wide_in_both_modes_into of a name without capitals" =>
         Call::BothModes, b"\xFF= :ab", LOWER, Ok(b"\xFF= -3"), Asked;
     "bind_wide_in_both_modes_into of a backslash in a string" =>
         Call::BothModes, b"'\\':Ab ?", b"", Err(Told::Backslash { position: 1 }), Never;
     "bind_wide_in_both_modes_into of a query that is not portable" =>
-        Call::BothModes, b"[:Ab ?", b"", BRACKET, Asked;
+        Call::BothModes, b"[:Ab ?", b"", BRACKET, Never;
     "bind_wide_in_both_modes_into of a query that is not portable without capitals" =>
         Call::BothModes, b"[:ab ?", b"", BRACKET, Never;
     "bind_wide_in_both_modes_into of names and marks" =>
-        Call::BothModes, b"/*! */ :Ab ?", b"", Err(Told::Mixed), Asked;
+        Call::BothModes, b"/*! */ :Ab ?", b"", Err(Told::Mixed), Never;
     "bind_wide_in_both_modes_into of names and marks without capitals" =>
         Call::BothModes, b"/*! */ :ab ?", b"", Err(Told::Mixed), Never;
     "bind_wide_in_both_modes_into of a missing name" =>
@@ -199,53 +194,4 @@ fn names_written(alloc: Global, (query, mode, wanted, memory): NamesRow) -> Outc
     let mut room = *ROOM;
     let told = names_into_read(alloc, query, wide(mode), &mut room);
     written(told, &room, wanted).with(memory)
-}
-
-/// Whether a client reads the query too, the query, the number and position of what is found, and
-/// whether the call asks for memory.
-type ReportRow = (bool, &'static [u8], (i32, usize), Memory);
-
-const REPORTS: &[(&str, ReportRow)] = cases! {
-    "report_first_unportable_wide of a name with a capital" => false, b":A [", (6, 3), Never;
-    "report_first_unportable_wide of a portable query with a capital" =>
-        false, b"SELECT :A", (0, 0), Never;
-    "report_first_unportable_wide of a name without capitals" => false, b":a [", (6, 3), Never;
-    "report_first_unportable_in_client_wide of a name with a capital" =>
-        true, b":A [", (6, 3), Never;
-    "report_first_unportable_in_client_wide of a name without capitals" =>
-        true, b":a [", (6, 3), Never;
-};
-
-/// Before a call.
-const NO_REPORT: Report = Report {
-    len: 9,
-    place: 9,
-    position: 9,
-    marks: 9,
-    values: 9,
-    byte: 9,
-};
-
-/// The report of memory that is refused.
-const ZEROS: Report = Report {
-    len: 0,
-    place: 0,
-    position: 0,
-    marks: 0,
-    values: 0,
-    byte: 0,
-};
-
-fn reported(alloc: Global, (is_for_client, query, wanted, memory): ReportRow) -> Outcome {
-    let mut report = NO_REPORT;
-    let number = if is_for_client {
-        report_first_unportable_in_client_wide(alloc, query, false, &mut report)
-    } else {
-        report_first_unportable_wide(alloc, query, false, &mut report)
-    };
-    match number {
-        -1 => Outcome::Memory.if_holds(report == ZEROS),
-        _ => Outcome::Answer.if_holds((number, report.position) == wanted),
-    }
-    .with(memory)
 }

@@ -1,22 +1,15 @@
-//! Queries bound by wide names, which may have capitals, and the first construct for which one
-//! isn't portable.
+//! Queries bound by wide names, which may have capitals.
 use crate::inputs::Given;
 use crate::inputs::Given::{Empty, Named, Positional};
 use crate::inputs::Plain::{Bytes, Float, Int, Null, UInt};
 use crate::outcome::Memory::{Asked, Never};
-use crate::outcome::{Case, Is, Memory, Outcome, cases, judged, row};
-use mysql_params::{
-    Construct, Unportable, bind_wide, bind_wide_in, first_unportable_in_client_wide,
-    first_unportable_wide,
-};
+use crate::outcome::{Case, Memory, cases, judged, row};
+use mysql_params::{bind_wide, bind_wide_in};
 use std::alloc::Global;
 
 /// How the call of this name went, if it stands here.
 pub(crate) fn case(alloc: Global, name: &str) -> Option<Case> {
-    if let Some(row) = row(BOUND, name) {
-        return Some(bound(alloc, row));
-    }
-    Some(Ok(looked_for(alloc, row(UNPORTABLE, name)?)))
+    Some(bound(alloc, row(BOUND, name)?))
 }
 
 /// A query, what is given, the mode (without one it is `bind_wide`), the text or the refusal, and
@@ -75,55 +68,4 @@ fn bound(alloc: Global, (query, given, no_backslash_escape, wanted, memory): Row
         None => bind_wide(alloc, query, params),
     };
     Ok(judged(answer, wanted).with(memory))
-}
-
-/// Where a query is read.
-#[derive(Clone, Copy)]
-enum Reader {
-    Servers,
-    Client,
-}
-
-/// A construct and its position, if there is one.
-type Found = Option<(Construct, usize)>;
-
-/// A reader, a query, the mode, what is found, and whether it asks for memory, which none does.
-type UnportableRow = (Reader, &'static [u8], bool, Found, Memory);
-
-const UNPORTABLE: &[(&str, UnportableRow)] = cases! {
-    "first_unportable_wide of a name with a capital" =>
-        Reader::Servers, b"SELECT :Id [", false, Some((Construct::Bracket, 11)), Never;
-    "first_unportable_wide of a portable query with a capital" =>
-        Reader::Servers, b"SELECT :Id", false, None, Never;
-    "first_unportable_wide without backslash escapes" =>
-        Reader::Servers, b"'\\', :A [", true, Some((Construct::Bracket, 8)), Never;
-    "first_unportable_wide of a name without capitals" =>
-        Reader::Servers, b"[ :a ':A'", false, Some((Construct::Bracket, 0)), Never;
-    "first_unportable_in_client_wide of a name with a capital" =>
-        Reader::Client, b"SELECT :A\ndelimiter x", false, Some((Construct::Delimiter, 10)), Never;
-    "first_unportable_in_client_wide of a portable query with a capital" =>
-        Reader::Client, b"SELECT :A", true, None, Never;
-    "first_unportable_in_client_wide of a name without capitals" =>
-        Reader::Client, b"SELECT :a\ndelimiter x", false, Some((Construct::Delimiter, 10)), Never;
-};
-
-impl Is<Found> for Option<Unportable> {
-    fn is(&self, wanted: Found) -> bool {
-        match (self, wanted) {
-            (Some(found), Some((construct, at))) => found.construct == construct && found.at == at,
-            (None, None) => true,
-            _ => false,
-        }
-    }
-}
-
-fn looked_for(
-    alloc: Global,
-    (reader, query, no_backslash_escape, wanted, memory): UnportableRow,
-) -> Outcome {
-    let answer = match reader {
-        Reader::Servers => first_unportable_wide(alloc, query, no_backslash_escape),
-        Reader::Client => first_unportable_in_client_wide(alloc, query, no_backslash_escape),
-    };
-    judged(answer, Ok(wanted)).with(memory)
 }

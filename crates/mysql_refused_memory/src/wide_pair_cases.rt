@@ -77,15 +77,15 @@ const PAIRS: &[(&str, PairsRow)] = cases! {
         Call::Appended(true), b"x=:Aa", TWO,
         Err("Params(Missing(MissingNamedParameterError([65, 97])))"), Asked;
     "bind_wide_pairs_anywhere of two pairs" => Call::Anywhere, QUERY, TWO, Ok(STEADY), Asked;
-    "bind_wide_pairs_anywhere of a query that is copied" =>
+    "bind_wide_pairs_anywhere of a query in doubt" =>
         Call::Anywhere, b"/*! */ :A", TWO, Ok(b"/*! */ _utf8mb4'it''s'"), Asked;
     "bind_wide_pairs_anywhere of an unsteady query" =>
         Call::Anywhere, b"x=:A\\", TWO, Err("Bind(Unsteady { at: 4 })"), Never;
     "bind_wide_pairs_anywhere of a query that is not portable" =>
-        Call::Anywhere, b"[ :A", TWO, Err(UNPORTABLE), Asked;
+        Call::Anywhere, b"[ :A", TWO, Err(UNPORTABLE), Never;
     "bind_wide_pairs_in_any_mode of two pairs" => Call::AnyMode, QUERY, TWO, Ok(STEADY), Asked;
     "bind_wide_pairs_in_both_modes of two pairs" => Call::BothModes, QUERY, TWO, Ok(STEADY), Asked;
-    "bind_wide_pairs_in_both_modes of a query that is copied" =>
+    "bind_wide_pairs_in_both_modes of a query in doubt" =>
         Call::BothModes, b"/*! */ :A", TWO, Ok(b"/*! */ _utf8mb4'it''s'"), Asked;
 };
 
@@ -144,12 +144,12 @@ const VALUES: &[(&str, ValuesRow)] = cases! {
     "append_values of a WideQuery for names" =>
         Call::Appended(false), b"x=:A", FIVE, Err(FOR_NAMES), Asked;
     "bind_wide_values_anywhere of a value" => Call::Anywhere, b"x=?", FIVE, Ok(b"x=5"), Asked;
-    "bind_wide_values_anywhere of a query that is copied" =>
+    "bind_wide_values_anywhere of a query in doubt" =>
         Call::Anywhere, b"/*! */ :A", FIVE, Err(FOR_NAMES), Asked;
     "bind_wide_values_in_any_mode of a value" => Call::AnyMode, b"[ ?", FIVE, Ok(b"[ 5"), Asked;
     "bind_wide_values_in_both_modes of a value" =>
         Call::BothModes, b"'\xC3\xBC'=?", TEXT, Ok(b"'\xC3\xBC'=_utf8mb4'it''s'"), Asked;
-    "bind_wide_values_in_both_modes of a query that is copied" =>
+    "bind_wide_values_in_both_modes of a query in doubt" =>
         Call::BothModes, b"/*! */ :A", FIVE, Err(FOR_NAMES), Asked;
 };
 

@@ -35,8 +35,7 @@ enum Call {
 }
 
 /// A call, a query, what is given, the text or the refusal (one of binding is shown by itself), and
-/// whether the call asks for memory. A call asks for it before a refusal where it copies the query,
-/// for a capital in a name.
+/// whether the call asks for memory.
 type Row = (Call, &'static [u8], Given<'static>, Wanted, Memory);
 
 /// A text, a number and NULL for names that differ by their case alone.
@@ -56,7 +55,7 @@ const BOUND: &[(&str, Row)] = cases! {
         Asked;
     "bind_wide_anywhere of a name without capitals" =>
         Call::Anywhere, b"':ID' = :id", THREE, Ok(b"':ID' = NULL"), Asked;
-    "bind_wide_anywhere of a query that is copied" =>
+    "bind_wide_anywhere of a query in doubt" =>
         Call::Anywhere, b"/*! */ :ID", THREE, Ok(b"/*! */ _utf8mb4'it''s'"), Asked;
     "bind_wide_anywhere of more names than are kept" =>
         Call::Anywhere, MANY, Named(&[(b"Id", Int(1))]), Ok(b"1,1,1,1,1,1,1,1,1,1,1,1,1,1,1,1,1"),
@@ -67,11 +66,11 @@ const BOUND: &[(&str, Row)] = cases! {
     "bind_wide_anywhere of an unsteady query" =>
         Call::Anywhere, b"x\\:ID", THREE, Err("Unsteady { at: 1 }"), Never;
     "bind_wide_anywhere of a query that is not portable" =>
-        Call::Anywhere, b"[:ID", THREE, Err(BRACKET), Asked;
+        Call::Anywhere, b"[:ID", THREE, Err(BRACKET), Never;
     "bind_wide_anywhere of a query that is not portable without capitals" =>
         Call::Anywhere, b"[:id", THREE, Err(BRACKET), Never;
     "bind_wide_anywhere of names and marks" =>
-        Call::Anywhere, b"/*! */ :ID ?", Empty, Err("Mixed"), Asked;
+        Call::Anywhere, b"/*! */ :ID ?", Empty, Err("Mixed"), Never;
     "bind_wide_anywhere of names and marks without capitals" =>
         Call::Anywhere, b"/*! */ :id ?", Empty, Err("Mixed"), Never;
     "bind_wide_anywhere of a missing name" => Call::Anywhere, b"(:A)", THREE, Err(MISSING_A), Asked;
@@ -94,16 +93,16 @@ const BOUND: &[(&str, Row)] = cases! {
         Asked;
     "bind_wide_in_both_modes of a name without capitals" =>
         Call::BothModes, b"'\xC3\xBC', :id", THREE, Ok(b"'\xC3\xBC', NULL"), Asked;
-    "bind_wide_in_both_modes of a query that is copied" =>
+    "bind_wide_in_both_modes of a query in doubt" =>
         Call::BothModes, b"/*! */ :ID", THREE, Ok(b"/*! */ _utf8mb4'it''s'"), Asked;
     "bind_wide_in_both_modes of a backslash in a string" =>
         Call::BothModes, b"'\\':ID", THREE, Err("Backslash { at: 1 }"), Never;
     "bind_wide_in_both_modes of a query that is not portable" =>
-        Call::BothModes, b"[:ID", THREE, Err(BRACKET), Asked;
+        Call::BothModes, b"[:ID", THREE, Err(BRACKET), Never;
     "bind_wide_in_both_modes of a query that is not portable without capitals" =>
         Call::BothModes, b"[:id", THREE, Err(BRACKET), Never;
     "bind_wide_in_both_modes of names and marks" =>
-        Call::BothModes, b"/*! */ :ID ?", Empty, Err("Mixed"), Asked;
+        Call::BothModes, b"/*! */ :ID ?", Empty, Err("Mixed"), Never;
     "bind_wide_in_both_modes of names and marks without capitals" =>
         Call::BothModes, b":id ?", Empty, Err("Mixed"), Never;
     "bind_wide_in_both_modes of a missing name" =>
@@ -142,11 +141,11 @@ const FRAGMENTS: &[(&str, FragmentsRow)] = cases! {
     "bind_wide_fragments_anywhere of an unsteady query" =>
         true, b"x\\:Ids", NAME_AND_LIST, Err("Unsteady { at: 1 }"), Never;
     "bind_wide_fragments_anywhere of a query that is not portable" =>
-        true, b"[ :Ids", NAME_AND_LIST, Err(BRACKET), Asked;
+        true, b"[ :Ids", NAME_AND_LIST, Err(BRACKET), Never;
     "bind_wide_fragments_anywhere of a query that is not portable without capitals" =>
         true, b"[ :ids", NAME_AND_LIST, Err(BRACKET), Never;
     "bind_wide_fragments_anywhere of names and marks" =>
-        true, b":Ids ?", NAME_AND_LIST, Err("Mixed"), Asked;
+        true, b":Ids ?", NAME_AND_LIST, Err("Mixed"), Never;
     "bind_wide_fragments_anywhere of names and marks without capitals" =>
         true, b":ids ?", NAME_AND_LIST, Err("Mixed"), Never;
     "bind_wide_fragments_anywhere of a missing name" =>
@@ -183,9 +182,9 @@ const GUARDED_FRAGMENTS: &[(&str, GuardedRow)] = cases! {
     "bind_wide_fragments_guarded of an unsteady query" =>
         b"x\\:Ids", NAME_AND_LIST, Err("Unsteady { at: 1 }"), Never;
     "bind_wide_fragments_guarded of a query that is not portable" =>
-        b"[ :Ids", NAME_AND_LIST, Err(BRACKET), Asked;
+        b"[ :Ids", NAME_AND_LIST, Err(BRACKET), Never;
     "bind_wide_fragments_guarded of names and marks" =>
-        b":Ids ?", NAME_AND_LIST, Err("Mixed"), Asked;
+        b":Ids ?", NAME_AND_LIST, Err("Mixed"), Never;
     "bind_wide_fragments_guarded of a missing name" =>
         b":A", NAME_AND_LIST, Err("Missing(MissingNamedParameterError([65]))"), Asked;
 };

@@ -34,16 +34,6 @@ in_each_mode query P none o mode =
     let b = on_both (grammar_reading true) query HoldNoEscapes P none o in
     (b.0, tokens_other true mode query b.0 b.2.0 b.1, b.2.1)
 
--- without a backslash in a string, and with this first construct, or none
-pub told_of : (query : List ℕ) (found : Option ℕ) (unportable : Option Unportable) →
-    ((mode : Bool) → OnTokens mode query (λ ts. found ≡ first_backslash ts)) → found ≡ None →
-    OnTokens true query (λ ts. unportable ≡ first_unportable ts) → (mode : Bool) →
-    OnTokens mode query (λ ts. (first_backslash ts ≡ None) × (first_unportable ts ≡ unportable))
-told_of query found unportable b none u mode =
-    let o = on_both (grammar_reading mode) query (λ ts. found ≡ first_backslash ts) (λ ts. unportable ≡ first_unportable ts) (b mode)
-    (in_each_mode query (λ ts. unportable ≡ first_unportable ts) (agree query found (b true) none) u mode) in
-    (o.0, o.1, (sym o.2.0 ∙ none, sym o.2.1))
-
 pub bound_answer : {A E : Type 0} (items : A → List ℕ) (query : List ℕ) (given : Given) → Agree query → (r : Result A E) →
     OnTokens true query (λ ts. IfOk r (λ text. IsGivenText steady_literal_of IsSteadyFor ts given (items text))) →
     OnTokens true query (λ ts. IfOk r (λ text. IsTextInBothModes ts given (items text)))

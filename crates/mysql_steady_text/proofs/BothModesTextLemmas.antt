@@ -130,7 +130,7 @@ each_no_escapes mode (literal ∷ literals) [] s a = absurd a
 each_no_escapes mode (literal ∷ literals) (list ∷ lists) s a =
     (steady_tokens list (subst (λ x. list_all is_steady x ≡ true) (sym a.0.text) s.1), each_no_escapes mode literals lists s.2 a.1)
 
-no_escapes_in : (ts : List Token) (lists : List (List Token)) → HoldNoEscapes ts → Each HoldNoEscapes lists →
+pub no_escapes_in : (ts : List Token) (lists : List (List Token)) → HoldNoEscapes ts → Each HoldNoEscapes lists →
     HoldNoEscapes (with_literal_tokens ts lists)
 no_escapes_in [] lists h s = tt
 no_escapes_in (Name name ∷ ts) [] h s = (h.0, no_escapes_in ts [] h.1 s)

@@ -12,6 +12,7 @@ pub mod SteadyLiteralLemmas
 pub mod FormLemmas
 pub mod WideSteadyLemmas
 pub mod WideBothModesLemmas
+pub mod PurposeLemmas
 pub mod PairsLemmas
 pub mod GuardedFormLemmas
 pub mod GuardedRunLemmas

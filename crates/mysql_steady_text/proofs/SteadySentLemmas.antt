@@ -56,7 +56,7 @@ space_part = record {
 introducer_text : SentText true (codes "_utf8mb4")
 introducer_text = front_and_part true (codes "_") (codes "utf8mb4") underscore_text (run_part true (codes "utf8mb4") refl)
 
-steady_sent : {literal : List ℕ} → IsSteadyLiteral literal → list_all is_in_line literal ≡ true → SentText true literal
+pub steady_sent : {literal : List ℕ} → IsSteadyLiteral literal → list_all is_in_line literal ≡ true → SentText true literal
 steady_sent (bare_literal literal h) s = literal_sent true h s
 steady_sent (introduced_string literal h) s =
     front_and_part true (codes "_utf8mb4") literal introducer_text (part_of true literal (quoted_text true literal h s))

@@ -32,12 +32,13 @@ use Rattle.mysql_binding.proofs.BoundAgainLemmas.{pieces-with_marks, with_litera
 use Rattle.mysql_binding.proofs.CauseLemmas.{on_both, on_map}
 use Rattle.mysql_binding.proofs.PieceLemmas.{joined_text_count}
 use Rattle.mysql_binding.proofs.SpliceLemmas.{as_many_lists}
+use Rattle.mysql_steady_text.specs.BothModesErrors.{IsBothModesRefusal}
 use Rattle.mysql_steady_text.specs.BothModesText.{IsBoundAgainInBothModes, IsByPositionInBothModes, IsTextInBothModes}
 use Rattle.mysql_steady_text.specs.FirstBackslash.{backslash_in, first_backslash, first_backslash_from}
 use Rattle.mysql_steady_text.specs.SteadyLiteral.{steady_literal_of}
 use Rattle.mysql_steady_text.specs.SteadyLiterals.{IsSteadyFor}
 use Rattle.mysql_steady_text.specs.OnServers.{IsReadInBothModes}
-use Rattle.mysql_steady_text.specs.WideBothModes.{IsBothModesBindRefusal, IsWideBothModesRefusal, IsWideTextInBothModes}
+use Rattle.mysql_steady_text.specs.WideBothModes.{IsBothModesBindRefusal, IsWideTextInBothModes}
 use Rattle.mysql_steady_text.specs.declared.both_modes_error.BothModesError.{BothModesError}
 use Rattle.mysql_steady_text.specs.declared.both_modes_error.BothModesError.TheVariants.{Backslash, Bind}
 use Rattle.mysql_steady_text.specs.declared.both_modes_error.BothModesError.TheVariants as error
@@ -59,7 +60,7 @@ no_escapes_from inside (Plain b ∷ ts) h = elim (plain_case inside b ts) [
 no_escapes_from inside (Name name ∷ ts) h = (refl, no_escapes_from true ts h.1)
 no_escapes_from inside (t ∷ ts) h = (h.0, no_escapes_from false ts h.1)
 
-no_escapes_back : (inside : Bool) (own : List Token) → HoldNoEscapes (widened_from inside own) → HoldNoEscapes own
+pub no_escapes_back : (inside : Bool) (own : List Token) → HoldNoEscapes (widened_from inside own) → HoldNoEscapes own
 no_escapes_back inside [] h = h
 no_escapes_back inside (Plain b ∷ ts) h = elim (plain_case inside b ts) [
   | goes_on i w e ↦ (refl, no_escapes_back true ts (subst HoldNoEscapes e h))
@@ -142,27 +143,6 @@ wide_backslash query found b mode =
     let o = b mode in
     (widened o.0, (o.0, o.1, refl), o.2 ∙ sym (first_backslash-widened o.0))
 
--- without a backslash in a string, and with this first construct, or none
-pub wide_told : (query : List ℕ) (found : Option ℕ) (P : List Token → Type 0) →
-    ((mode : Bool) → OnTokens mode query (λ ts. found ≡ first_backslash ts)) → found ≡ None → Agree query →
-    OnWideTokens true query P → (mode : Bool) → OnWideTokens mode query (λ ts. (first_backslash ts ≡ None) × P ts)
-wide_told query found P b none agree u mode =
-    let o = on_both (wide_reading mode) query (λ ts. found ≡ first_backslash ts) P (wide_backslash query found b mode) (in_each_wide query P agree u mode) in
-    (o.0, o.1, (sym o.2.0 ∙ none, o.2.1))
-
--- a clear query has neither
-pub clear_both : (query : List ℕ) → is_clear query ≡ true → (mode : Bool) →
-    OnWideTokens mode query (λ ts. (first_backslash ts ≡ None) × (first_unportable (lower_names ts) ≡ None))
-clear_both query clear mode =
-    let o = clear_wide_is_portable mode query clear in
-    let b = wide_backslash query None (steady_has_none query (clear_query_is_steady false query clear)) mode in
-    let w = on_both (wide_reading mode) query (λ ts. None ≡ first_backslash ts) (λ ts. first_unportable (lower_names ts) ≡ None) b (o.0, o.1, o.2.1) in
-    (w.0, w.1, (sym w.2.0, w.2.1))
-
--- and the modes agree on it
-pub clear_agree : (query : List ℕ) → is_clear query ≡ true → Agree query
-clear_agree query clear = agree query None (steady_has_none query (clear_query_is_steady false query clear) true) refl
-
 -- ---- by the query with marks
 
 -- the text of the query with marks is that of the query
@@ -244,14 +224,14 @@ wide_both_answer items (Err e) query given none p b = λ mode. wide_nothing mode
 pub wide_both_refused : {A : Type 0} (r : Result A BothModesError) (mode : Bool) (query : List ℕ) (given : Given) (unportable : List Token → Option Unportable) →
     OnWideTokens mode query (λ ts. (first_backslash ts ≡ None) × (unportable ts ≡ None)) →
     OnWideTokens mode query (λ ts. IfErr r (IsBothModesBindRefusal (first_cause ts given))) →
-    OnWideTokens mode query (λ ts. IfErr r (IsWideBothModesRefusal (first_backslash ts) (unportable ts) (first_cause ts given)))
+    OnWideTokens mode query (λ ts. IfErr r (IsBothModesRefusal (first_backslash ts) (unportable ts) (first_cause ts given)))
 wide_both_refused (Ok text) mode query given unportable p b = wide_nothing mode query
 wide_both_refused (Err (Backslash at)) mode query given unportable p b = absurd b.2
 wide_both_refused (Err (error.Unportable found)) mode query given unportable p b = absurd b.2
 wide_both_refused (Err (Bind e)) mode query given unportable p b =
     on_map (wide_reading mode) query (λ ts. ((first_backslash ts ≡ None) × (unportable ts ≡ None)) × IsCauseOrMemory (first_cause ts given) e)
-    (λ ts. IsWideBothModesRefusal (first_backslash ts) (unportable ts) (first_cause ts given) (Bind e))
-    (λ ts is h. inr (h.0.0, h.0.1, h.1))
+    (λ ts. IsBothModesRefusal (first_backslash ts) (unportable ts) (first_cause ts given) (Bind e))
+    (λ ts is h. (h.0.0, h.0.1, h.1))
     (on_both (wide_reading mode) query (λ ts. (first_backslash ts ≡ None) × (unportable ts ≡ None)) (λ ts. IsCauseOrMemory (first_cause ts given) e) p b)
 
 module _ {A E : Type 0} (items : A → List ℕ) (query : List ℕ) (given : Given) where

@@ -45,7 +45,7 @@ use Rattle.mysql_steady_text.specs.SteadyLiterals.{AreSteadyLiterals, IsSteadyFo
 use Rattle.mysql_steady_text.specs.SteadyText.{IsSteadyText}
 use Rattle.mysql_steady_text.specs.SteadyAgain.{IsSteadyBoundAgain, IsSteadyByPosition}
 use Rattle.mysql_steady_text.specs.SteadyTextErrors.{IsBindRefusal, IsSteadyRefusal}
-use Rattle.mysql_steady_text.specs.WideAnywhere.{IsWideAnywhereText, IsWideSteadyRefusal}
+use Rattle.mysql_steady_text.specs.WideAnywhere.{IsWideAnywhereText}
 use Rattle.mysql_steady_text.specs.declared.steady_text_error.SteadyTextError.{SteadyTextError}
 use Rattle.mysql_steady_text.specs.declared.steady_text_error.SteadyTextError.TheVariants.{Unsteady, Bind}
 use Rattle.mysql_steady_text.specs.declared.steady_text_error.SteadyTextError.TheVariants as error
@@ -272,19 +272,6 @@ wide_refused (Err (Bind e)) mode query given unportable steady p b =
     on_map (wide_reading mode) query (λ ts. (unportable ts ≡ None) × IsCauseOrMemory (first_cause ts given) e) (λ ts. IsSteadyRefusal query (unportable ts) (first_cause ts given) (Bind e))
     (λ ts is h. (steady, h.0, h.1))
     (on_both (wide_reading mode) query (λ ts. unportable ts ≡ None) (λ ts. IsCauseOrMemory (first_cause ts given) e) p b)
-
--- the construct that is found, as it is matched
-pub found_so : (query : List ℕ) (found wanted : Option Unportable) → found ≡ wanted →
-    OnWideTokens false query (λ ts. found ≡ first_unportable (lower_names ts)) →
-    OnWideTokens false query (λ ts. wanted ≡ first_unportable (lower_names ts))
-found_so query found wanted e o = subst (λ x. OnWideTokens false query (λ ts. x ≡ first_unportable (lower_names ts))) e o
-
--- a refusal is one of those that may also be out of memory
-pub or_memory : {A : Type 0} (r : Result A SteadyTextError) (mode : Bool) (query : List ℕ) (given : Given) (unportable : List Token → Option Unportable) →
-    OnWideTokens mode query (λ ts. IfErr r (IsSteadyRefusal query (unportable ts) (first_cause ts given))) →
-    OnWideTokens mode query (λ ts. IfErr r (IsWideSteadyRefusal query (unportable ts) (first_cause ts given)))
-or_memory (Ok text) mode query given unportable o = o
-or_memory (Err e) mode query given unportable o = (o.0, o.1, inr o.2)
 
 module _ {A E : Type 0} (items : A → List ℕ) (query : List ℕ) (given : Given) where
   pub wide_bound_again : (mode : Bool) (r : Result A E) → OnWideTokens mode query (λ ts. IfOk r (λ text. IsSteadyText ts given (items text))) →

@@ -8,6 +8,7 @@ pub mod FirstBackslash
 pub mod BothModesText
 pub mod BothModesErrors
 pub mod QueryRefusal
+pub mod Purposes
 pub mod SteadyPairs
 pub mod SteadyLiteral
 pub mod SteadyShape

@@ -1,17 +1,19 @@
--- Why a query can't be bound for any server with any parameters.
-use Rattle.std.specs.Prelude.{ℕ, List, Option, Some, None, option_map}
-use Rattle.mysql_named_params.specs.Tokens.{Token}
-use Rattle.mysql_portable.specs.FirstUnportable.{first_unportable}
-use Rattle.mysql_portable.specs.Steady.{first_unsteady}
-use Rattle.mysql_portable.specs.declared.portable.Unportable.{Unportable}
+-- The error for a query that is refused for a purpose.
+use Rattle.mysql_steady_text.specs.declared.both_modes_error.BothModesError.{BothModesError}
+use Rattle.mysql_steady_text.specs.declared.both_modes_error.BothModesError.TheVariants as both
+use Rattle.mysql_steady_text.specs.declared.purpose.QueryRefusal.{QueryRefusal}
+use Rattle.mysql_steady_text.specs.declared.purpose.QueryRefusal.TheVariants.{Unsteady, Backslash, Unportable}
 use Rattle.mysql_steady_text.specs.declared.steady_text_error.SteadyTextError.{SteadyTextError}
 use Rattle.mysql_steady_text.specs.declared.steady_text_error.SteadyTextError.TheVariants as error
 
--- the refusal for a first byte that isn't steady, or else for a first construct
-abbrev pub refusal_by : Option ℕ → Option Unportable → Option SteadyTextError
-refusal_by (Some at) found = Some (error.Unsteady at)
-refusal_by None found = option_map error.Unportable found
+-- the error of binding to a steady text; a backslash is a byte that isn't steady
+abbrev pub steady_text_error : QueryRefusal → SteadyTextError
+steady_text_error (Unsteady at) = error.Unsteady at
+steady_text_error (Backslash at) = error.Unsteady at
+steady_text_error (Unportable found) = error.Unportable found
 
--- the refusal of a query with these tokens and any parameters
-abbrev pub query_refusal : List ℕ → List Token → Option SteadyTextError
-query_refusal query ts = refusal_by (first_unsteady query) (first_unportable ts)
+-- the error of binding to a text for both modes, which never refuses a query as `Unsteady`
+abbrev pub both_modes_error : QueryRefusal → BothModesError
+both_modes_error (Unsteady at) = both.Backslash at
+both_modes_error (Backslash at) = both.Backslash at
+both_modes_error (Unportable found) = both.Unportable found

@@ -7,11 +7,10 @@ use Rattle.mysql_named_params.specs.LoweredNames.{lower_names}
 use Rattle.mysql_named_params.specs.Reading.{OnWideTokens}
 use Rattle.mysql_portable.specs.FirstUnportable.{first_unportable}
 use Rattle.mysql_binding.specs.FirstCause.{first_cause}
+use Rattle.mysql_steady_text.specs.BothModesErrors.{IsBothModesRefusal}
 use Rattle.mysql_steady_text.specs.FirstBackslash.{first_backslash}
 use Rattle.mysql_steady_text.specs.SteadyPairs.{IsPairsRefusal, IsPairsRefusalInBothModes}
 use Rattle.mysql_steady_text.specs.SteadyTextErrors.{IsSteadyRefusal}
-use Rattle.mysql_steady_text.specs.WideAnywhere.{IsWideSteadyRefusal}
-use Rattle.mysql_steady_text.specs.WideBothModes.{IsWideBothModesRefusal}
 use Rattle.mysql_steady_text.specs.declared.both_modes_pairs_error.BothModesPairsError.{BothModesPairsError}
 use Rattle.mysql_steady_text.specs.declared.steady_pairs_error.SteadyPairsError.{SteadyPairsError}
 
@@ -20,7 +19,7 @@ abbrev pub IsWideAnywherePairsRefusal : List ℕ → List (Bor (List ℕ) × Val
     → Type 0
 IsWideAnywherePairsRefusal query = IsPairsRefusal (λ given error. (mode : Bool) →
     OnWideTokens mode query (λ ts.
-    IsWideSteadyRefusal query (first_unportable (lower_names ts)) (first_cause ts given) error))
+    IsSteadyRefusal query (first_unportable (lower_names ts)) (first_cause ts given) error))
 
 -- the error, for a text for any mode
 abbrev pub IsWideSteadyPairsRefusal : List ℕ → List (Bor (List ℕ) × ValueRef) → SteadyPairsError
@@ -32,5 +31,5 @@ IsWideSteadyPairsRefusal query = IsPairsRefusal (λ given error. (mode : Bool) �
 abbrev pub IsWideBothModesPairsRefusal : List ℕ → List (Bor (List ℕ) × ValueRef)
     → BothModesPairsError → Type 0
 IsWideBothModesPairsRefusal query = IsPairsRefusalInBothModes (λ given error. (mode : Bool) →
-    OnWideTokens mode query (λ ts. IsWideBothModesRefusal (first_backslash ts)
+    OnWideTokens mode query (λ ts. IsBothModesRefusal (first_backslash ts)
     (first_unportable (lower_names ts)) (first_cause ts given) error))

@@ -13,13 +13,12 @@ ghost use Rattle.mysql_steady_text.specs.FirstBackslash.{first_backslash};
 ghost use Rattle.mysql_steady_text.specs.BothModesText.{IsTextInBothModes, IsPortableInBothModes, IsBoundAgainInBothModes, IsByPositionInBothModes};
 ghost use Rattle.mysql_steady_text.specs.BothModesErrors.{IsBothModesRefusal};
 
-use crate::both_modes_error::BothModesError;
-use crate::first_backslash::first_backslash;
+use crate::both_modes_error::{BothModesError, both_modes_error};
+use crate::purpose::{IN_BOTH_MODES, query_refusal};
 use crate::steady_literal::SteadyForm;
 use mysql_binding::{BindError, bind_borrowed_as};
 use mysql_named_params::places::Reading;
 use mysql_params_core::params::{BorrowedParams, Params};
-use mysql_portable::portable::first_unportable;
 use std::alloc::Global;
 
 /// [`bind_text_anywhere`](crate::bind_text_anywhere) for a query that may hold bytes from 128 on,
@@ -94,11 +93,8 @@ pub(crate) fn bind_borrowed_in_both_modes(
         first_unportable ts ≡ None → HasName ts × HasMark ts →
         IsErrOf result (BothModesError.Bind BindError.Mixed)) }
 {
-    if let Some(at) = first_backslash(query) {
-        return Err(BothModesError::Backslash { at });
-    }
-    if let Some(found) = first_unportable(query, true) {
-        return Err(BothModesError::Unportable(found));
+    if let Some(refusal) = query_refusal(query, IN_BOTH_MODES) {
+        return Err(both_modes_error(refusal));
     }
     Ok(bind_agreed(alloc, query, params)?)
 }

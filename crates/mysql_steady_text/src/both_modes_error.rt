@@ -1,7 +1,10 @@
 //! Why a query and parameters give no text for both modes.
+ghost use Rattle.std.specs.Prelude.{◌≡◌};
+ghost use Rattle.mysql_steady_text.specs.QueryRefusal.{both_modes_error};
+
+use crate::purpose::QueryRefusal;
 use mysql_binding::BindError;
 use mysql_portable::portable::Unportable;
-use std::alloc::AllocError;
 use thiserror::Error;
 
 /// Why [`bind_text_in_both_modes`](crate::bind_text_in_both_modes) gave no text: the first cause,
@@ -33,14 +36,13 @@ impl From<BindError> for BothModesError {
     }
 }
 
-impl From<AllocError> for BothModesError {
-    ghost use Rattle.std.specs.Prelude.{◌≡◌, alloc_error};
-    ghost use Rattle.mysql_binding.specs.declared.bind_error.BindError.TheVariants.{Memory};
-    ghost use Rattle.mysql_steady_text.specs.declared.both_modes_error.BothModesError.TheVariants.{Bind};
-
-    ghost from_gives = { λ _ error. error ≡ Bind (Memory alloc_error) };
-
-    fn from(error: AllocError) -> BothModesError {
-        BothModesError::Bind(BindError::Memory(error))
+/// The error for a query that is refused in either mode, so never for a byte that isn't steady.
+pub(crate) fn both_modes_error(refusal: QueryRefusal) -> BothModesError
+    ensures { result ≡ both_modes_error refusal }
+{
+    match refusal {
+        QueryRefusal::Unsteady { at } => BothModesError::Backslash { at },
+        QueryRefusal::Backslash { at } => BothModesError::Backslash { at },
+        QueryRefusal::Unportable(found) => BothModesError::Unportable(found),
     }
 }

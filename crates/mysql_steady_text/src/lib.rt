@@ -21,6 +21,7 @@ mod guarded_literal;
 mod guarded_text;
 pub mod laws;
 mod pairs;
+pub mod purpose;
 pub mod steady_literal;
 mod steady_pairs_error;
 mod steady_text;
@@ -40,7 +41,7 @@ pub use pairs::{
 };
 pub use steady_literal::SteadyForm;
 pub use steady_pairs_error::SteadyPairsError;
-pub use steady_text::{bind_text_anywhere, bind_text_in_any_mode, query_refusal};
+pub use steady_text::{bind_text_anywhere, bind_text_in_any_mode};
 pub use steady_text_error::SteadyTextError;
 pub use wide::{
     bind_wide_anywhere, bind_wide_in_any_mode, bind_wide_values_anywhere,

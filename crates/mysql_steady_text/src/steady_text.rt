@@ -1,5 +1,4 @@
-//! Queries with the steady literals of values in the places of names and marks, and why a query has
-//! no such text with any parameters.
+//! Queries with the steady literals of values in the places of names and marks.
 ghost use Rattle.std.specs.Prelude.{◌≡◌, ℕ, Bool, None, Some, IfErr, IfOk, IsErrOf};
 ghost use Rattle.mysql_named_params.specs.Tokens.{OnTokens};
 ghost use Rattle.mysql_named_params.specs.Places.{HasName, HasMark};
@@ -12,15 +11,13 @@ ghost use Rattle.mysql_binding.specs.FirstCause.{first_cause};
 ghost use Rattle.mysql_steady_text.specs.SteadyAgain.{IsSteadyBoundAgain, IsSteadyByPosition};
 ghost use Rattle.mysql_steady_text.specs.SteadyText.{IsAnywhereText, IsSteadyText};
 ghost use Rattle.mysql_steady_text.specs.SteadyTextErrors.{IsBindRefusal, IsSteadyRefusal};
-ghost use Rattle.mysql_steady_text.specs.QueryRefusal.{query_refusal};
 
+use crate::purpose::{ANYWHERE, query_refusal};
 use crate::steady_literal::SteadyForm;
-use crate::steady_text_error::SteadyTextError;
+use crate::steady_text_error::{SteadyTextError, steady_text_error};
 use mysql_binding::{BindError, bind_borrowed_as};
 use mysql_named_params::places::Reading;
 use mysql_params_core::params::{BorrowedParams, Params};
-use mysql_portable::clear::is_clear;
-use mysql_portable::portable::first_unportable;
 use mysql_portable::steady::first_unsteady;
 use std::alloc::Global;
 
@@ -122,8 +119,8 @@ pub(crate) fn bind_borrowed_anywhere(
         first_unportable ts ≡ None → HasName ts × HasMark ts →
         IsErrOf result (SteadyTextError.Bind BindError.Mixed)) }
 {
-    match query_refusal(query) {
-        Some(error) => Err(error),
+    match query_refusal(query, ANYWHERE) {
+        Some(refusal) => Err(steady_text_error(refusal)),
         None => bind_steady(alloc, query, params),
     }
 }
@@ -171,25 +168,4 @@ pub(crate) fn bind_steady(
         wide_names: false,
     };
     Ok(bind_borrowed_as(alloc, query, params, reading, &SteadyForm)?)
-}
-
-/// The refusal of a query for which [`bind_text_anywhere`](crate::bind_text_anywhere) needn't look
-/// at parameters: `Unsteady`, or else `Unportable`. For the crates above. It allocates nothing.
-///
-/// Most queries pass in one quick walk. If a byte is in doubt there, two more walks find the cause,
-/// or that there is none.
-// A query has one token list in each mode, and a steady one the same in both (`steady_texts`).
-pub fn query_refusal(query: &[u8]) -> Option<SteadyTextError>
-    ensures { (mode : Bool) → OnTokens mode query.now (λ ts. result ≡ query_refusal query.now ts) }
-{
-    if is_clear(query) {
-        return None;
-    }
-    if let Some(at) = first_unsteady(query) {
-        return Some(SteadyTextError::Unsteady { at });
-    }
-    match first_unportable(query, false) {
-        Some(found) => Some(SteadyTextError::Unportable(found)),
-        None => None,
-    }
 }

@@ -1,4 +1,8 @@
 //! Why a query and parameters give no steady text.
+ghost use Rattle.std.specs.Prelude.{◌≡◌};
+ghost use Rattle.mysql_steady_text.specs.QueryRefusal.{steady_text_error};
+
+use crate::purpose::QueryRefusal;
 use mysql_binding::BindError;
 use mysql_portable::portable::Unportable;
 use thiserror::Error;
@@ -31,5 +35,16 @@ impl From<BindError> for SteadyTextError {
 
     fn from(error: BindError) -> SteadyTextError {
         SteadyTextError::Bind(error)
+    }
+}
+
+/// The error for a query that is refused. A backslash is a byte that isn't steady.
+pub(crate) fn steady_text_error(refusal: QueryRefusal) -> SteadyTextError
+    ensures { result ≡ steady_text_error refusal }
+{
+    match refusal {
+        QueryRefusal::Unsteady { at } => SteadyTextError::Unsteady { at },
+        QueryRefusal::Backslash { at } => SteadyTextError::Unsteady { at },
+        QueryRefusal::Unportable(found) => SteadyTextError::Unportable(found),
     }
 }

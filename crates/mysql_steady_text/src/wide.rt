@@ -1,7 +1,7 @@
 //! Steady texts of queries with wide names, which may have capitals.
-ghost use Rattle.std.specs.Prelude.{◌≡◌, false, ℕ, Bool, None, Some, IfErr, IfOk, IsErrOf};
-ghost use Rattle.mysql_named_params.specs.LoweredNames.{have_capitals, lower_names};
-ghost use Rattle.mysql_named_params.specs.Places.{HasMark, HasName, names};
+ghost use Rattle.std.specs.Prelude.{◌≡◌, ℕ, Bool, None, Some, IfErr, IfOk, IsErrOf};
+ghost use Rattle.mysql_named_params.specs.LoweredNames.{lower_names};
+ghost use Rattle.mysql_named_params.specs.Places.{HasMark, HasName};
 ghost use Rattle.mysql_named_params.specs.Reading.{OnWideTokens};
 ghost use Rattle.mysql_params_core.specs.Given.{given, positional};
 ghost use Rattle.mysql_params_core.specs.GivenBorrowed.{given_by_borrowed};
@@ -13,26 +13,24 @@ ghost use Rattle.mysql_binding.specs.FirstCause.{first_cause};
 ghost use Rattle.mysql_steady_text.specs.SteadyAgain.{IsSteadyBoundAgain, IsSteadyByPosition};
 ghost use Rattle.mysql_steady_text.specs.SteadyText.{IsSteadyText};
 ghost use Rattle.mysql_steady_text.specs.SteadyTextErrors.{IsBindRefusal, IsSteadyRefusal};
-ghost use Rattle.mysql_steady_text.specs.WideAnywhere.{IsWideAnywhereText, IsWideSteadyRefusal};
+ghost use Rattle.mysql_steady_text.specs.WideAnywhere.{IsWideAnywhereText};
 
+use crate::purpose::{WIDE_ANYWHERE, query_refusal};
 use crate::steady_literal::SteadyForm;
-use crate::steady_text_error::SteadyTextError;
+use crate::steady_text_error::{SteadyTextError, steady_text_error};
 use mysql_binding::{BindError, bind_borrowed_as};
 use mysql_named_params::places::Reading;
 use mysql_params_core::params::{BorrowedParams, Params};
-use mysql_portable::clear::is_clear;
 use mysql_portable::steady::first_unsteady;
-use mysql_portable::wide::first_unportable_wide;
 use mysql_values::value::ValueRef;
 use std::alloc::Global;
 
 /// [`bind_text_anywhere`](crate::bind_text_anywhere) by wide names, as
 /// [`bind_wide_in`](mysql_binding::bind_wide_in) reads them. The query with its names in lower case
-/// has to be portable: [`first_unportable_wide`](mysql_portable::wide::first_unportable_wide) finds
-/// nothing in it.
+/// has to be portable: [`first_unportable_in`](mysql_portable::wide::first_unportable_in) finds
+/// nothing in the query.
 ///
-/// It refuses for the same causes in the same order. If a name has a capital, out of memory may
-/// also come in place of `Unportable`, and of the refusal of a query with names and marks.
+/// It refuses for the same causes in the same order.
 pub fn bind_wide_anywhere(
     alloc: Global,
     query: &[u8],
@@ -41,21 +39,20 @@ pub fn bind_wide_anywhere(
     ensures bound { (mode : Bool) → OnWideTokens mode query.now (λ ts. IfOk result (λ text.
         IsWideAnywhereText ts (given params) text.items)) }
     ensures refused { (mode : Bool) → OnWideTokens mode query.now (λ ts. IfErr result
-        (IsWideSteadyRefusal query.now (first_unportable (lower_names ts))
+        (IsSteadyRefusal query.now (first_unportable (lower_names ts))
         (first_cause ts (given params)))) }
     ensures bound_again { IfOk result (λ text. IsSteadyBoundAgain text.items) }
     ensures by_position { (mode : Bool) → OnWideTokens mode query.now (λ ts. IfOk result
         (λ text. IsSteadyByPosition mode ts (given params) text.items)) }
 
-    // These are refused without allocating, the latter two if no name has a capital.
+    // These are refused without allocating.
     ensures unsteady { (at : ℕ) → first_unsteady query.now ≡ Some at →
         IsErrOf result (SteadyTextError.Unsteady at) }
     ensures unportable { (mode : Bool) → OnWideTokens mode query.now (λ ts. IsSteady query.now →
-        have_capitals (names ts) ≡ false → (found : unportable.Unportable) →
-        first_unportable (lower_names ts) ≡ Some found →
+        (found : unportable.Unportable) → first_unportable (lower_names ts) ≡ Some found →
         IsErrOf result (SteadyTextError.Unportable found)) }
     ensures mixed { (mode : Bool) → OnWideTokens mode query.now (λ ts. IsSteady query.now →
-        have_capitals (names ts) ≡ false → first_unportable (lower_names ts) ≡ None →
+        first_unportable (lower_names ts) ≡ None →
         HasName ts × HasMark ts → IsErrOf result (SteadyTextError.Bind BindError.Mixed)) }
 {
     bind_borrowed_wide_anywhere(alloc, query, params.borrowed())
@@ -71,21 +68,20 @@ pub fn bind_wide_values_anywhere(
     ensures bound { (mode : Bool) → OnWideTokens mode query.now (λ ts. IfOk result (λ text.
         IsWideAnywhereText ts (positional (owned_values values.now)) text.items)) }
     ensures refused { (mode : Bool) → OnWideTokens mode query.now (λ ts. IfErr result
-        (IsWideSteadyRefusal query.now (first_unportable (lower_names ts))
+        (IsSteadyRefusal query.now (first_unportable (lower_names ts))
         (first_cause ts (positional (owned_values values.now))))) }
     ensures bound_again { IfOk result (λ text. IsSteadyBoundAgain text.items) }
     ensures by_position { (mode : Bool) → OnWideTokens mode query.now (λ ts. IfOk result
         (λ text. IsSteadyByPosition mode ts (positional (owned_values values.now)) text.items)) }
 
-    // These are refused without allocating, the latter two if no name has a capital.
+    // These are refused without allocating.
     ensures unsteady { (at : ℕ) → first_unsteady query.now ≡ Some at →
         IsErrOf result (SteadyTextError.Unsteady at) }
     ensures unportable { (mode : Bool) → OnWideTokens mode query.now (λ ts. IsSteady query.now →
-        have_capitals (names ts) ≡ false → (found : unportable.Unportable) →
-        first_unportable (lower_names ts) ≡ Some found →
+        (found : unportable.Unportable) → first_unportable (lower_names ts) ≡ Some found →
         IsErrOf result (SteadyTextError.Unportable found)) }
     ensures mixed { (mode : Bool) → OnWideTokens mode query.now (λ ts. IsSteady query.now →
-        have_capitals (names ts) ≡ false → first_unportable (lower_names ts) ≡ None →
+        first_unportable (lower_names ts) ≡ None →
         HasName ts × HasMark ts → IsErrOf result (SteadyTextError.Bind BindError.Mixed)) }
 {
     bind_borrowed_wide_anywhere(alloc, query, BorrowedParams::Values(values))
@@ -148,34 +144,25 @@ pub(crate) fn bind_borrowed_wide_anywhere(
     ensures bound { (mode : Bool) → OnWideTokens mode query.now (λ ts. IfOk result (λ text.
         IsWideAnywhereText ts (given_by_borrowed params.entry) text.items)) }
     ensures refused { (mode : Bool) → OnWideTokens mode query.now (λ ts. IfErr result
-        (IsWideSteadyRefusal query.now (first_unportable (lower_names ts))
+        (IsSteadyRefusal query.now (first_unportable (lower_names ts))
         (first_cause ts (given_by_borrowed params.entry)))) }
     ensures bound_again { IfOk result (λ text. IsSteadyBoundAgain text.items) }
     ensures by_position { (mode : Bool) → OnWideTokens mode query.now (λ ts. IfOk result
         (λ text. IsSteadyByPosition mode ts (given_by_borrowed params.entry) text.items)) }
 
-    // These are refused without allocating, the latter two if no name has a capital.
+    // These are refused without allocating.
     ensures unsteady { (at : ℕ) → first_unsteady query.now ≡ Some at →
         IsErrOf result (SteadyTextError.Unsteady at) }
     ensures unportable { (mode : Bool) → OnWideTokens mode query.now (λ ts. IsSteady query.now →
-        have_capitals (names ts) ≡ false → (found : unportable.Unportable) →
-        first_unportable (lower_names ts) ≡ Some found →
+        (found : unportable.Unportable) → first_unportable (lower_names ts) ≡ Some found →
         IsErrOf result (SteadyTextError.Unportable found)) }
     ensures mixed { (mode : Bool) → OnWideTokens mode query.now (λ ts. IsSteady query.now →
-        have_capitals (names ts) ≡ false → first_unportable (lower_names ts) ≡ None →
+        first_unportable (lower_names ts) ≡ None →
         HasName ts × HasMark ts → IsErrOf result (SteadyTextError.Bind BindError.Mixed)) }
 {
-    // Most queries pass in one quick walk, with capitals or without.
-    if is_clear(query) {
-        return bind_wide_steady(alloc, query, params);
-    }
-    if let Some(at) = first_unsteady(query) {
-        return Err(SteadyTextError::Unsteady { at });
-    }
-    match first_unportable_wide(alloc, query, false) {
-        Ok(None) => bind_wide_steady(alloc, query, params),
-        Ok(Some(found)) => Err(SteadyTextError::Unportable(found)),
-        Err(error) => Err(SteadyTextError::Bind(BindError::Memory(error))),
+    match query_refusal(query, WIDE_ANYWHERE) {
+        Some(refusal) => Err(steady_text_error(refusal)),
+        None => bind_wide_steady(alloc, query, params),
     }
 }
 

@@ -1,7 +1,7 @@
 //! Texts for both modes of queries with wide names, which may have capitals.
-ghost use Rattle.std.specs.Prelude.{◌≡◌, false, true, ℕ, Bool, None, Some, IfErr, IfOk, IsErrOf};
-ghost use Rattle.mysql_named_params.specs.LoweredNames.{have_capitals, lower_names};
-ghost use Rattle.mysql_named_params.specs.Places.{HasMark, HasName, names};
+ghost use Rattle.std.specs.Prelude.{◌≡◌, true, ℕ, Bool, None, Some, IfErr, IfOk, IsErrOf};
+ghost use Rattle.mysql_named_params.specs.LoweredNames.{lower_names};
+ghost use Rattle.mysql_named_params.specs.Places.{HasMark, HasName};
 ghost use Rattle.mysql_named_params.specs.Reading.{OnWideTokens};
 ghost use Rattle.mysql_named_params.specs.Tokens.{OnTokens};
 ghost use Rattle.mysql_params_core.specs.Given.{given, positional};
@@ -11,28 +11,26 @@ ghost use Rattle.mysql_portable.specs.Steady.{HoldNoEscapes};
 ghost use Rattle.mysql_portable.specs.declared.portable.Unportable as unportable;
 ghost use Rattle.mysql_values.specs.BorrowedValue.{owned_values};
 ghost use Rattle.mysql_binding.specs.FirstCause.{first_cause};
+ghost use Rattle.mysql_steady_text.specs.BothModesErrors.{IsBothModesRefusal};
 ghost use Rattle.mysql_steady_text.specs.BothModesText.{IsBoundAgainInBothModes, IsByPositionInBothModes, IsTextInBothModes};
 ghost use Rattle.mysql_steady_text.specs.FirstBackslash.{first_backslash};
-ghost use Rattle.mysql_steady_text.specs.WideBothModes.{IsBothModesBindRefusal, IsWideBothModesRefusal, IsWideTextInBothModes};
+ghost use Rattle.mysql_steady_text.specs.WideBothModes.{IsBothModesBindRefusal, IsWideTextInBothModes};
 
-use crate::both_modes_error::BothModesError;
-use crate::first_backslash::first_backslash;
+use crate::both_modes_error::{BothModesError, both_modes_error};
+use crate::purpose::{WIDE_IN_BOTH_MODES, query_refusal};
 use crate::steady_literal::SteadyForm;
 use mysql_binding::{BindError, bind_borrowed_as};
 use mysql_named_params::places::Reading;
 use mysql_params_core::params::{BorrowedParams, Params};
-use mysql_portable::clear::is_clear;
-use mysql_portable::wide::first_unportable_wide;
 use mysql_values::value::ValueRef;
 use std::alloc::Global;
 
 /// [`bind_text_in_both_modes`](crate::bind_text_in_both_modes) by wide names, as
 /// [`bind_wide_in`](mysql_binding::bind_wide_in) reads them. The query with its names in lower case
-/// has to be portable: [`first_unportable_wide`](mysql_portable::wide::first_unportable_wide) finds
-/// nothing in it.
+/// has to be portable: [`first_unportable_in`](mysql_portable::wide::first_unportable_in) finds
+/// nothing in the query.
 ///
-/// It refuses for the same causes in the same order. If a name has a capital, out of memory may
-/// also come in place of `Unportable`, and of the refusal of a query with names and marks.
+/// It refuses for the same causes in the same order.
 pub fn bind_wide_in_both_modes(
     alloc: Global,
     query: &[u8],
@@ -41,23 +39,22 @@ pub fn bind_wide_in_both_modes(
     ensures bound { (mode : Bool) → OnWideTokens mode query.now (λ ts. IfOk result (λ text.
         IsWideTextInBothModes ts (given params) text.items)) }
     ensures refused { (mode : Bool) → OnWideTokens mode query.now (λ ts. IfErr result
-        (IsWideBothModesRefusal (first_backslash ts) (first_unportable (lower_names ts))
+        (IsBothModesRefusal (first_backslash ts) (first_unportable (lower_names ts))
         (first_cause ts (given params)))) }
     ensures bound_again { IfOk result (λ text. IsBoundAgainInBothModes text.items) }
     ensures by_position { (mode : Bool) → OnWideTokens mode query.now (λ ts. IfOk result (λ text.
         IsByPositionInBothModes mode ts (given params) text.items)) }
 
-    // These are refused without allocating, the latter two if no name has a capital.
+    // These are refused without allocating.
     ensures backslash { (mode : Bool) → OnWideTokens mode query.now (λ ts.
         (at : ℕ) → first_backslash ts ≡ Some at → IsErrOf result (BothModesError.Backslash at)) }
     ensures unportable { (mode : Bool) → OnWideTokens mode query.now (λ ts.
-        first_backslash ts ≡ None → have_capitals (names ts) ≡ false →
-        (found : unportable.Unportable) → first_unportable (lower_names ts) ≡ Some found →
+        first_backslash ts ≡ None → (found : unportable.Unportable) →
+        first_unportable (lower_names ts) ≡ Some found →
         IsErrOf result (BothModesError.Unportable found)) }
     ensures mixed { (mode : Bool) → OnWideTokens mode query.now (λ ts.
-        first_backslash ts ≡ None → have_capitals (names ts) ≡ false →
-        first_unportable (lower_names ts) ≡ None → HasName ts × HasMark ts →
-        IsErrOf result (BothModesError.Bind BindError.Mixed)) }
+        first_backslash ts ≡ None → first_unportable (lower_names ts) ≡ None →
+        HasName ts × HasMark ts → IsErrOf result (BothModesError.Bind BindError.Mixed)) }
 {
     bind_borrowed_wide_in_both_modes(alloc, query, params.borrowed())
 }
@@ -72,23 +69,22 @@ pub fn bind_wide_values_in_both_modes(
     ensures bound { (mode : Bool) → OnWideTokens mode query.now (λ ts. IfOk result (λ text.
         IsWideTextInBothModes ts (positional (owned_values values.now)) text.items)) }
     ensures refused { (mode : Bool) → OnWideTokens mode query.now (λ ts. IfErr result
-        (IsWideBothModesRefusal (first_backslash ts) (first_unportable (lower_names ts))
+        (IsBothModesRefusal (first_backslash ts) (first_unportable (lower_names ts))
         (first_cause ts (positional (owned_values values.now))))) }
     ensures bound_again { IfOk result (λ text. IsBoundAgainInBothModes text.items) }
     ensures by_position { (mode : Bool) → OnWideTokens mode query.now (λ ts. IfOk result (λ text.
         IsByPositionInBothModes mode ts (positional (owned_values values.now)) text.items)) }
 
-    // These are refused without allocating, the latter two if no name has a capital.
+    // These are refused without allocating.
     ensures backslash { (mode : Bool) → OnWideTokens mode query.now (λ ts.
         (at : ℕ) → first_backslash ts ≡ Some at → IsErrOf result (BothModesError.Backslash at)) }
     ensures unportable { (mode : Bool) → OnWideTokens mode query.now (λ ts.
-        first_backslash ts ≡ None → have_capitals (names ts) ≡ false →
-        (found : unportable.Unportable) → first_unportable (lower_names ts) ≡ Some found →
+        first_backslash ts ≡ None → (found : unportable.Unportable) →
+        first_unportable (lower_names ts) ≡ Some found →
         IsErrOf result (BothModesError.Unportable found)) }
     ensures mixed { (mode : Bool) → OnWideTokens mode query.now (λ ts.
-        first_backslash ts ≡ None → have_capitals (names ts) ≡ false →
-        first_unportable (lower_names ts) ≡ None → HasName ts × HasMark ts →
-        IsErrOf result (BothModesError.Bind BindError.Mixed)) }
+        first_backslash ts ≡ None → first_unportable (lower_names ts) ≡ None →
+        HasName ts × HasMark ts → IsErrOf result (BothModesError.Bind BindError.Mixed)) }
 {
     bind_borrowed_wide_in_both_modes(alloc, query, BorrowedParams::Values(values))
 }
@@ -102,33 +98,25 @@ pub(crate) fn bind_borrowed_wide_in_both_modes(
     ensures bound { (mode : Bool) → OnWideTokens mode query.now (λ ts. IfOk result (λ text.
         IsWideTextInBothModes ts (given_by_borrowed params.entry) text.items)) }
     ensures refused { (mode : Bool) → OnWideTokens mode query.now (λ ts. IfErr result
-        (IsWideBothModesRefusal (first_backslash ts) (first_unportable (lower_names ts))
+        (IsBothModesRefusal (first_backslash ts) (first_unportable (lower_names ts))
         (first_cause ts (given_by_borrowed params.entry)))) }
     ensures bound_again { IfOk result (λ text. IsBoundAgainInBothModes text.items) }
     ensures by_position { (mode : Bool) → OnWideTokens mode query.now (λ ts. IfOk result (λ text.
         IsByPositionInBothModes mode ts (given_by_borrowed params.entry) text.items)) }
 
-    // These are refused without allocating, the latter two if no name has a capital.
+    // These are refused without allocating.
     ensures backslash { (mode : Bool) → OnWideTokens mode query.now (λ ts.
         (at : ℕ) → first_backslash ts ≡ Some at → IsErrOf result (BothModesError.Backslash at)) }
     ensures unportable { (mode : Bool) → OnWideTokens mode query.now (λ ts.
-        first_backslash ts ≡ None → have_capitals (names ts) ≡ false →
-        (found : unportable.Unportable) → first_unportable (lower_names ts) ≡ Some found →
+        first_backslash ts ≡ None → (found : unportable.Unportable) →
+        first_unportable (lower_names ts) ≡ Some found →
         IsErrOf result (BothModesError.Unportable found)) }
     ensures mixed { (mode : Bool) → OnWideTokens mode query.now (λ ts.
-        first_backslash ts ≡ None → have_capitals (names ts) ≡ false →
-        first_unportable (lower_names ts) ≡ None → HasName ts × HasMark ts →
-        IsErrOf result (BothModesError.Bind BindError.Mixed)) }
+        first_backslash ts ≡ None → first_unportable (lower_names ts) ≡ None →
+        HasName ts × HasMark ts → IsErrOf result (BothModesError.Bind BindError.Mixed)) }
 {
-    // One quick walk passes most queries of ASCII, with capitals or without.
-    if is_clear(query) {
-        return bind_wide_agreed(alloc, query, params);
-    }
-    if let Some(at) = first_backslash(query) {
-        return Err(BothModesError::Backslash { at });
-    }
-    match first_unportable_wide(alloc, query, true)? {
-        Some(found) => Err(BothModesError::Unportable(found)),
+    match query_refusal(query, WIDE_IN_BOTH_MODES) {
+        Some(refusal) => Err(both_modes_error(refusal)),
         None => bind_wide_agreed(alloc, query, params),
     }
 }

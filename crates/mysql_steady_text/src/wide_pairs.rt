@@ -1,8 +1,8 @@
 //! Queries with wide names bound to steady texts, and to texts for both modes, from borrowed names
 //! and values.
-ghost use Rattle.std.specs.Prelude.{◌≡◌, false, ℕ, Bool, None, Some, IfErr, IfOk, IsErrOf};
-ghost use Rattle.mysql_named_params.specs.LoweredNames.{have_capitals, lower_names};
-ghost use Rattle.mysql_named_params.specs.Places.{HasMark, HasName, names};
+ghost use Rattle.std.specs.Prelude.{◌≡◌, ℕ, Bool, None, Some, IfErr, IfOk, IsErrOf};
+ghost use Rattle.mysql_named_params.specs.LoweredNames.{lower_names};
+ghost use Rattle.mysql_named_params.specs.Places.{HasMark, HasName};
 ghost use Rattle.mysql_named_params.specs.Reading.{OnWideTokens};
 ghost use Rattle.mysql_portable.specs.FirstUnportable.{first_unportable};
 ghost use Rattle.mysql_portable.specs.Steady.{first_unsteady, IsSteady};
@@ -47,16 +47,16 @@ pub fn bind_wide_pairs_anywhere(
         OnWideTokens mode query.now (λ ts. IsSteadyByPosition mode ts given text.items))) }
 
     // These are refused without allocating, if there are at most 64 pairs and no name is given
-    // twice; the latter two if no name has a capital.
+    // twice.
     ensures unsteady { IfFewPairs pairs.now (λ given. (at : ℕ) →
         first_unsteady query.now ≡ Some at →
         IsErrOf result (SteadyPairsError.Bind (SteadyTextError.Unsteady at))) }
     ensures unportable { IfFewPairs pairs.now (λ given. (mode : Bool) →
-        OnWideTokens mode query.now (λ ts. IsSteady query.now → have_capitals (names ts) ≡ false →
+        OnWideTokens mode query.now (λ ts. IsSteady query.now →
         (found : unportable.Unportable) → first_unportable (lower_names ts) ≡ Some found →
         IsErrOf result (SteadyPairsError.Bind (SteadyTextError.Unportable found)))) }
     ensures mixed { IfFewPairs pairs.now (λ given. (mode : Bool) →
-        OnWideTokens mode query.now (λ ts. IsSteady query.now → have_capitals (names ts) ≡ false →
+        OnWideTokens mode query.now (λ ts. IsSteady query.now →
         first_unportable (lower_names ts) ≡ None → HasName ts × HasMark ts →
         IsErrOf result (SteadyPairsError.Bind (SteadyTextError.Bind BindError.Mixed)))) }
 {
@@ -119,18 +119,16 @@ pub fn bind_wide_pairs_in_both_modes(
         OnWideTokens mode query.now (λ ts. IsByPositionInBothModes mode ts given text.items))) }
 
     // These are refused without allocating, if there are at most 64 pairs and no name is given
-    // twice; the latter two if no name has a capital.
+    // twice.
     ensures backslash { IfFewPairs pairs.now (λ given. (mode : Bool) →
         OnWideTokens mode query.now (λ ts. (at : ℕ) → first_backslash ts ≡ Some at →
         IsErrOf result (BothModesPairsError.Bind (BothModesError.Backslash at)))) }
     ensures unportable { IfFewPairs pairs.now (λ given. (mode : Bool) →
         OnWideTokens mode query.now (λ ts. first_backslash ts ≡ None →
-        have_capitals (names ts) ≡ false →
         (found : unportable.Unportable) → first_unportable (lower_names ts) ≡ Some found →
         IsErrOf result (BothModesPairsError.Bind (BothModesError.Unportable found)))) }
     ensures mixed { IfFewPairs pairs.now (λ given. (mode : Bool) →
         OnWideTokens mode query.now (λ ts. first_backslash ts ≡ None →
-        have_capitals (names ts) ≡ false →
         first_unportable (lower_names ts) ≡ None → HasName ts × HasMark ts →
         IsErrOf result (BothModesPairsError.Bind (BothModesError.Bind BindError.Mixed)))) }
 {

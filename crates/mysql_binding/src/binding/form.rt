@@ -5,7 +5,9 @@ ghost use Rattle.mysql_values.specs.Literal.{literal_of};
 ghost use Rattle.mysql_values.specs.declared.value.Value.TheVariants.{NULL, Bytes, Int, UInt, Float, Double, Date, Time};
 ghost use Rattle.mysql_binding.specs.LiteralForm.{Literals, LiteralFacts, LackFloats, IsPlainLiteral};
 
-use mysql_values::laws::{borrowed_literal_shape, literal_shape};
+use mysql_values::laws::{
+    borrowed_fields_in_range, borrowed_literal_shape, fields_in_range, literal_shape,
+};
 use mysql_values::value::{Value, ValueRef};
 
 /// A form in which [`bind_borrowed_as`](crate::bind_borrowed_as) writes the literals of values.
@@ -69,6 +71,7 @@ impl LiteralForm for PlainForm {
     }
 
     fn put(&self, value: ValueRef<'_>, room: &mut [u8]) {
+        borrowed_fields_in_range(value);
         borrowed_literal_shape(value);
         value.put_sql(self.no_backslash_escape, room);
     }
@@ -84,6 +87,7 @@ impl LiteralForm for PlainForm {
         let PlainForm {
             no_backslash_escape,
         } = *self;
+        fields_in_range(value);
         literal_shape(value);
         value.put_sql(no_backslash_escape, room);
     }

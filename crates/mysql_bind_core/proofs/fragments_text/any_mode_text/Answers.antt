@@ -1,10 +1,7 @@
-use Rattle.std.specs.Prelude.{false, None}
-use Rattle.std.proofs.Common.{inr}
-use Rattle.mysql_named_params.specs.Reading.{OnWideTokens, wide_reading}
+use Rattle.std.specs.Prelude.{false}
+use Rattle.mysql_named_params.specs.Reading.{OnWideTokens}
 use Rattle.mysql_binding.proofs.AppendedTextLemmas.{handed_on}
-use Rattle.mysql_binding.proofs.CauseLemmas.{on_map}
 use Rattle.mysql_fragments.specs.GivenFragments.{given_fragments}
-use Rattle.mysql_fragments.specs.SteadyFragmentsErrors.{IsSteadyRefusal}
 use Rattle.mysql_bind_core.specs.Refusals.{IsFragmentsRefusal}
 use Rattle.mysql_bind_core.specs.declared.failure.Failure.TheVariants.{SteadyFragments}
 use Rattle.mysql_bind_core.specs.declared.request.Literals.TheVariants.{Steady}
@@ -16,5 +13,4 @@ returns-in_err-bind_wide_fragments_in_any_mode-clause-refused c =
     let query = c.args.query.now in
     handed_on (λ why. OnWideTokens false query (λ ts. IsFragmentsRefusal Steady Any query ts (given_fragments c.args.fragments.now) why))
     c.from_residual.result (SteadyFragments c.in_err-bind_wide_fragments_in_any_mode.field-0.0) c.from_residual.ensures.1
-    (on_map (wide_reading false) query (λ ts. IsSteadyRefusal query None ts (given_fragments c.args.fragments.now) c.in_err-bind_wide_fragments_in_any_mode.field-0.0) _ (λ ts is h. inr h)
-    (c.in_err-bind_wide_fragments_in_any_mode.ensures.refused false))
+    (c.in_err-bind_wide_fragments_in_any_mode.ensures.refused false)

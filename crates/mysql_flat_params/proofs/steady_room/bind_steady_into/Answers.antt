@@ -1,5 +1,5 @@
 use Rattle.std.specs.Prelude.{Err, true}
-use Rattle.std.proofs.Common.{◌∙◌, ap, inr, sym, true≢false}
+use Rattle.std.proofs.Common.{◌∙◌, ap, inr, sym}
 use Rattle.mysql_named_params.specs.Reading.{reading_with}
 use Rattle.mysql_named_params.proofs.ReadingLemmas.{reading_exists}
 use Rattle.mysql_steady_text.proofs.WideBothModesLemmas.{in_each_reading}
@@ -36,50 +36,30 @@ returns-in-Err-clause-memory c = λ is. inr (c.in-Err.ensures.memory (ap (λ e. 
 
 -- ---- a query that is refused with any parameters
 
-pub returns-in-Ok-Some-clause-outcome : goal.returns-in-Ok-Some-clause-outcome
-returns-in-Ok-Some-clause-outcome c =
-    let t = c.in-Ok-Some.ensures.told true in
-    refusal_told c.args.call.wide_names (IsBoundAs c.args.call.wide_names c.args.call.steadiness c.args.query.now) (refusal_as c.args.call.wide_names c.args.call.steadiness c.args.query.now) c.args.query.now c.args.form.now (given_in_place c.in-Ok.params) c.in-Ok.ensures.params c.in-Ok-Some.outcome
-    (is_query_refusal c.args.call.wide_names c.args.call.steadiness c.args.query.now t.0 c.in-Ok-Some.outcome (sym t.2 ∙ c.in-Ok-Some.field-0-is))
-    (λ mode. let o = c.in-Ok-Some.ensures.told mode in (o.0, o.1, sym o.2 ∙ c.in-Ok-Some.field-0-is))
+pub returns-in-Some-clause-outcome : goal.returns-in-Some-clause-outcome
+returns-in-Some-clause-outcome c =
+    let t = c.query_outcome.ensures.told true in
+    refusal_told c.args.call.wide_names (IsBoundAs c.args.call.wide_names c.args.call.steadiness c.args.query.now) (refusal_as c.args.call.wide_names c.args.call.steadiness c.args.query.now) c.args.query.now c.args.form.now (given_in_place c.in-Ok.params) c.in-Ok.ensures.params c.in-Some.outcome
+    (is_query_refusal c.args.call.wide_names c.args.call.steadiness c.args.query.now t.0 c.in-Some.outcome (sym t.2 ∙ c.in-Some.is))
+    (λ mode. let o = c.query_outcome.ensures.told mode in (o.0, o.1, sym o.2 ∙ c.in-Some.is))
 
-pub returns-in-Ok-Some-clause-byte : goal.returns-in-Ok-Some-clause-byte
-returns-in-Ok-Some-clause-byte c mode =
-    let o = c.in-Ok-Some.ensures.told mode in
-    (o.0, o.1, λ none told is. let same = sym (byte_first c.args.call.wide_names c.args.call.steadiness c.args.query.now o.0 told is) ∙ (sym o.2 ∙ c.in-Ok-Some.field-0-is) in cc)
+pub returns-in-Some-clause-byte : goal.returns-in-Some-clause-byte
+returns-in-Some-clause-byte c mode =
+    let o = c.query_outcome.ensures.told mode in
+    (o.0, o.1, λ none told is. let same = sym (byte_first c.args.call.wide_names c.args.call.steadiness c.args.query.now o.0 told is) ∙ (sym o.2 ∙ c.in-Some.is) in cc)
 
-pub returns-in-Ok-Some-clause-refused : goal.returns-in-Ok-Some-clause-refused
-returns-in-Ok-Some-clause-refused c mode =
-    let o = c.in-Ok-Some.ensures.told mode in
-    (o.0, o.1, λ none low told is. let same = sym is ∙ (sym o.2 ∙ c.in-Ok-Some.field-0-is) in cc)
+pub returns-in-Some-clause-refused : goal.returns-in-Some-clause-refused
+returns-in-Some-clause-refused c mode =
+    let o = c.query_outcome.ensures.told mode in
+    (o.0, o.1, λ none told is. let same = sym is ∙ (sym o.2 ∙ c.in-Some.is) in cc)
 
-pub returns-in-Ok-Some-clause-mixed : goal.returns-in-Ok-Some-clause-mixed
-returns-in-Ok-Some-clause-mixed c mode =
-    let o = c.in-Ok-Some.ensures.told mode in
-    (o.0, o.1, λ none low is both. let never = sym is ∙ (sym o.2 ∙ c.in-Ok-Some.field-0-is) in cc)
+pub returns-in-Some-clause-mixed : goal.returns-in-Some-clause-mixed
+returns-in-Some-clause-mixed c mode =
+    let o = c.query_outcome.ensures.told mode in
+    (o.0, o.1, λ none is both. let never = sym is ∙ (sym o.2 ∙ c.in-Some.is) in cc)
 
-pub returns-in-Ok-Some-clause-memory : goal.returns-in-Ok-Some-clause-memory
-returns-in-Ok-Some-clause-memory c = λ is. first_stands _ _ c.in-Ok.ensures.params
-
--- ---- memory for a copy of the query
-
-pub returns-in-Err-query_refusal-clause-byte : goal.returns-in-Err-query_refusal-clause-byte
-returns-in-Err-query_refusal-clause-byte c mode =
-    let o = c.in-Err-query_refusal.ensures.memory mode in
-    (o.0, o.1, λ none told is. let never = sym is ∙ o.2.0 in cc)
-
-pub returns-in-Err-query_refusal-clause-refused : goal.returns-in-Err-query_refusal-clause-refused
-returns-in-Err-query_refusal-clause-refused c mode =
-    let o = c.in-Err-query_refusal.ensures.memory mode in
-    (o.0, o.1, λ none low told is. absurd (true≢false (sym o.2.1 ∙ low)))
-
-pub returns-in-Err-query_refusal-clause-mixed : goal.returns-in-Err-query_refusal-clause-mixed
-returns-in-Err-query_refusal-clause-mixed c mode =
-    let o = c.in-Err-query_refusal.ensures.memory mode in
-    (o.0, o.1, λ none low is both. absurd (true≢false (sym o.2.1 ∙ low)))
-
-pub returns-in-Err-query_refusal-clause-memory : goal.returns-in-Err-query_refusal-clause-memory
-returns-in-Err-query_refusal-clause-memory c = λ is. first_stands _ _ c.in-Ok.ensures.params
+pub returns-in-Some-clause-memory : goal.returns-in-Some-clause-memory
+returns-in-Some-clause-memory c = λ is. first_stands _ _ c.in-Ok.ensures.params
 
 -- ---- a text, or another cause
 
@@ -90,49 +70,49 @@ pub returns-in-Ok-bind_params_steady-clause-outcome : goal.returns-in-Ok-bind_pa
 returns-in-Ok-bind_params_steady-clause-outcome c =
     steady_told c.args.call.wide_names (IsBoundAs c.args.call.wide_names c.args.call.steadiness c.args.query.now) (refusal_as c.args.call.wide_names c.args.call.steadiness c.args.query.now) c.args.query.now c.args.form.now (given_in_place c.in-Ok.params) c.in-Ok.ensures.params c.args.room.now c.bind_params_steady.new.room
     c.in-Ok-bind_params_steady.text c.text_outcome.result c.text_outcome.ensures
-    (steady_in_room c.args.call.wide_names c.args.call.steadiness c.args.query.now (given_in_place c.in-Ok.params) c.args.room.now c.bind_params_steady.new.room c.in-Ok-bind_params_steady.text (none_of c.args.call.wide_names c.args.call.steadiness c.args.query.now _ c.in-Ok-None.ensures.told c.in-Ok-None.field-0-is true) c.in-Ok-bind_params_steady.ensures.text)
+    (steady_in_room c.args.call.wide_names c.args.call.steadiness c.args.query.now (given_in_place c.in-Ok.params) c.args.room.now c.bind_params_steady.new.room c.in-Ok-bind_params_steady.text (none_of c.args.call.wide_names c.args.call.steadiness c.args.query.now _ c.query_outcome.ensures.told c.in_default.is true) c.in-Ok-bind_params_steady.ensures.text)
     c.bind_params_steady.auto.room
 
 pub returns-in-Ok-bind_params_steady-clause-written : goal.returns-in-Ok-bind_params_steady-clause-written
 returns-in-Ok-bind_params_steady-clause-written c =
     steady_written c.args.call.wide_names (IsBoundAs c.args.call.wide_names c.args.call.steadiness c.args.query.now) (refusal_as c.args.call.wide_names c.args.call.steadiness c.args.query.now) c.args.query.now c.args.form.now (given_in_place c.in-Ok.params) c.in-Ok.ensures.params c.args.room.now c.bind_params_steady.new.room
     c.in-Ok-bind_params_steady.text c.text_outcome.result c.text_outcome.ensures
-    (steady_in_room c.args.call.wide_names c.args.call.steadiness c.args.query.now (given_in_place c.in-Ok.params) c.args.room.now c.bind_params_steady.new.room c.in-Ok-bind_params_steady.text (none_of c.args.call.wide_names c.args.call.steadiness c.args.query.now _ c.in-Ok-None.ensures.told c.in-Ok-None.field-0-is true) c.in-Ok-bind_params_steady.ensures.text)
+    (steady_in_room c.args.call.wide_names c.args.call.steadiness c.args.query.now (given_in_place c.in-Ok.params) c.args.room.now c.bind_params_steady.new.room c.in-Ok-bind_params_steady.text (none_of c.args.call.wide_names c.args.call.steadiness c.args.query.now _ c.query_outcome.ensures.told c.in_default.is true) c.in-Ok-bind_params_steady.ensures.text)
 
 pub returns-in-Ok-bind_params_steady-clause-byte : goal.returns-in-Ok-bind_params_steady-clause-byte
 returns-in-Ok-bind_params_steady-clause-byte c mode =
-    let o = none_of c.args.call.wide_names c.args.call.steadiness c.args.query.now _ c.in-Ok-None.ensures.told c.in-Ok-None.field-0-is mode in
+    let o = none_of c.args.call.wide_names c.args.call.steadiness c.args.query.now _ c.query_outcome.ensures.told c.in_default.is mode in
     (o.0, o.1, λ none told is. let never = sym (byte_first c.args.call.wide_names c.args.call.steadiness c.args.query.now o.0 told is) ∙ o.2 in cc)
 
 pub returns-in-Ok-bind_params_steady-clause-refused : goal.returns-in-Ok-bind_params_steady-clause-refused
 returns-in-Ok-bind_params_steady-clause-refused c mode =
-    let o = none_of c.args.call.wide_names c.args.call.steadiness c.args.query.now _ c.in-Ok-None.ensures.told c.in-Ok-None.field-0-is mode in
-    (o.0, o.1, λ none low told is. let never = sym is ∙ o.2 in cc)
+    let o = none_of c.args.call.wide_names c.args.call.steadiness c.args.query.now _ c.query_outcome.ensures.told c.in_default.is mode in
+    (o.0, o.1, λ none told is. let never = sym is ∙ o.2 in cc)
 
 pub returns-in-Ok-bind_params_steady-clause-mixed : goal.returns-in-Ok-bind_params_steady-clause-mixed
 returns-in-Ok-bind_params_steady-clause-mixed c mode =
-    let o = in_each_reading c.args.call.wide_names c.args.query.now _ (c.in-Ok-None.ensures.agree c.in-Ok-None.field-0-is) c.in-Ok-bind_params_steady.ensures.mixed mode in
-    (o.0, o.1, λ none low is both. let e = o.2 both in cc)
+    let o = in_each_reading c.args.call.wide_names c.args.query.now _ (c.query_outcome.ensures.agree c.in_default.is) c.in-Ok-bind_params_steady.ensures.mixed mode in
+    (o.0, o.1, λ none is both. let e = o.2 both in cc)
 
 pub returns-in-Err-bind_params_steady-clause-outcome : goal.returns-in-Err-bind_params_steady-clause-outcome
 returns-in-Err-bind_params_steady-clause-outcome c =
-    cause_told c.args.call.wide_names (IsBoundAs c.args.call.wide_names c.args.call.steadiness c.args.query.now) (refusal_as c.args.call.wide_names c.args.call.steadiness c.args.query.now) c.args.query.now c.args.form.now (c.in-Ok-None.ensures.agree c.in-Ok-None.field-0-is) (none_of c.args.call.wide_names c.args.call.steadiness c.args.query.now _ c.in-Ok-None.ensures.told c.in-Ok-None.field-0-is) c.bind_outcome.result c.bind_outcome.ensures.no_answer
+    cause_told c.args.call.wide_names (IsBoundAs c.args.call.wide_names c.args.call.steadiness c.args.query.now) (refusal_as c.args.call.wide_names c.args.call.steadiness c.args.query.now) c.args.query.now c.args.form.now (c.query_outcome.ensures.agree c.in_default.is) (none_of c.args.call.wide_names c.args.call.steadiness c.args.query.now _ c.query_outcome.ensures.told c.in_default.is) c.bind_outcome.result c.bind_outcome.ensures.no_answer
     (c.bind_outcome.ensures.outcome c.args.form.now (given_in_place c.in-Ok.params) c.in-Ok.ensures.params c.in-Err-bind_params_steady.ensures.refused)
 
 pub returns-in-Err-bind_params_steady-clause-byte : goal.returns-in-Err-bind_params_steady-clause-byte
 returns-in-Err-bind_params_steady-clause-byte c mode =
-    let o = none_of c.args.call.wide_names c.args.call.steadiness c.args.query.now _ c.in-Ok-None.ensures.told c.in-Ok-None.field-0-is mode in
+    let o = none_of c.args.call.wide_names c.args.call.steadiness c.args.query.now _ c.query_outcome.ensures.told c.in_default.is mode in
     (o.0, o.1, λ none told is. let never = sym (byte_first c.args.call.wide_names c.args.call.steadiness c.args.query.now o.0 told is) ∙ o.2 in cc)
 
 pub returns-in-Err-bind_params_steady-clause-refused : goal.returns-in-Err-bind_params_steady-clause-refused
 returns-in-Err-bind_params_steady-clause-refused c mode =
-    let o = none_of c.args.call.wide_names c.args.call.steadiness c.args.query.now _ c.in-Ok-None.ensures.told c.in-Ok-None.field-0-is mode in
-    (o.0, o.1, λ none low told is. let never = sym is ∙ o.2 in cc)
+    let o = none_of c.args.call.wide_names c.args.call.steadiness c.args.query.now _ c.query_outcome.ensures.told c.in_default.is mode in
+    (o.0, o.1, λ none told is. let never = sym is ∙ o.2 in cc)
 
 pub returns-in-Err-bind_params_steady-clause-mixed : goal.returns-in-Err-bind_params_steady-clause-mixed
 returns-in-Err-bind_params_steady-clause-mixed c mode =
-    let o = in_each_reading c.args.call.wide_names c.args.query.now _ (c.in-Ok-None.ensures.agree c.in-Ok-None.field-0-is) c.in-Err-bind_params_steady.ensures.mixed mode in
-    (o.0, o.1, λ none low is both. let e = o.2 both in c.bind_outcome.ensures.mixed cc)
+    let o = in_each_reading c.args.call.wide_names c.args.query.now _ (c.query_outcome.ensures.agree c.in_default.is) c.in-Err-bind_params_steady.ensures.mixed mode in
+    (o.0, o.1, λ none is both. let e = o.2 both in c.bind_outcome.ensures.mixed cc)
 
 pub returns-in-Err-bind_params_steady-clause-memory : goal.returns-in-Err-bind_params_steady-clause-memory
 returns-in-Err-bind_params_steady-clause-memory c = λ is. first_stands _ _ c.in-Ok.ensures.params

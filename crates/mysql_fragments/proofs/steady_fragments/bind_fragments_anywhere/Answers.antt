@@ -1,75 +1,72 @@
-use Rattle.std.specs.Prelude.{false}
-use Rattle.std.proofs.Common.{sym, ◌∙◌, rules}
-use Rattle.mysql_named_params.proofs.TokensExistLemmas.{tokens_exist}
+use Rattle.std.specs.Prelude.{Err, false, true}
+use Rattle.std.proofs.Common.{ap, ◌∙◌, sym}
 use Rattle.mysql_portable.specs.FirstUnportable.{first_unportable}
-use Rattle.mysql_portable.proofs.SteadyLemmas.{steady_other}
-use Rattle.mysql_fragments.specs.GivenFragments.{given_fragments}
+use Rattle.mysql_portable.specs.Steady.{first_unsteady}
+use Rattle.mysql_portable.proofs.SteadyLemmas.{none_unsteady}
+use Rattle.mysql_portable.proofs.UnportableLemmas.{none_is_portable}
+use Rattle.mysql_steady_text.specs.declared.purpose.QueryRefusal.TheVariants as refusal
 use Rattle.mysql_steady_text.proofs.BothModesTextLemmas.{nothing_said}
+use Rattle.mysql_steady_text.proofs.QueryRefusalLemmas.{judged_anywhere, none_told}
+use Rattle.mysql_fragments.specs.GivenFragments.{given_fragments}
 use Rattle.mysql_fragments.proofs.SteadyFragmentLemmas.{anywhere_fragments, refused_fragments_answer}
+use Rattle.mysql_fragments.proofs.RefusedQueryLemmas.{never_refused, refused_query, unportable_query, unsteady_query}
 use Rattle.mysql_fragments.proofs.steady_fragments.bind_fragments_anywhere.Goals as goal
 
 pub returns-in-Some-clause-bound : goal.returns-in-Some-clause-bound
 returns-in-Some-clause-bound c mode = nothing_said mode c.args.query.now
 
--- It is searched for, so that a wrong body is refused at the goal, and another right one is proved.
 pub returns-in-Some-clause-refused : goal.returns-in-Some-clause-refused
 returns-in-Some-clause-refused c mode =
-    let t = tokens_exist mode c.args.query.now in
-    let at = sym c.first_unsteady.ensures.first ∙ c.in-Some.is in
-    (t.0, t.1, search (at, rules))
+    let o = judged_anywhere mode c.args.query.now c.query_refusal.result (c.query_refusal.ensures mode) in
+    (o.0, o.1, refused_query c.args.query.now (first_unportable o.0) c.in-Some.refusal c.steady_fragments_error.result c.steady_fragments_error.ensures (sym c.in-Some.is ∙ o.2) o.0 (given_fragments c.args.fragments.now))
+
+pub returns-in-Some-clause-unsteady : goal.returns-in-Some-clause-unsteady
+returns-in-Some-clause-unsteady c at e =
+    let o = judged_anywhere true c.args.query.now c.query_refusal.result (c.query_refusal.ensures true) in
+    ap (λ x. Err x) (unsteady_query c.args.query.now (first_unportable o.0) c.in-Some.refusal c.steady_fragments_error.result c.steady_fragments_error.ensures (sym c.in-Some.is ∙ o.2) at e)
 
 pub returns-in-Some-clause-unportable : goal.returns-in-Some-clause-unportable
 returns-in-Some-clause-unportable c mode =
-    let t = tokens_exist mode c.args.query.now in
-    (t.0, t.1, λ steady found e. let none = sym (c.first_unsteady.ensures.none.1 steady) ∙ c.in-Some.is in cc)
+    let o = judged_anywhere mode c.args.query.now c.query_refusal.result (c.query_refusal.ensures mode) in
+    (o.0, o.1, λ steady found e. ap (λ x. Err x) (unportable_query c.args.query.now (first_unportable o.0) c.in-Some.refusal c.steady_fragments_error.result c.steady_fragments_error.ensures (sym c.in-Some.is ∙ o.2) ((none_unsteady c.args.query.now).1 steady) found e))
 
 pub returns-in-Some-clause-mixed : goal.returns-in-Some-clause-mixed
 returns-in-Some-clause-mixed c mode =
-    let t = tokens_exist mode c.args.query.now in
-    (t.0, t.1, λ steady e both. let none = sym (c.first_unsteady.ensures.none.1 steady) ∙ c.in-Some.is in cc)
+    let o = judged_anywhere mode c.args.query.now c.query_refusal.result (c.query_refusal.ensures mode) in
+    (o.0, o.1, λ steady e both. never_refused c.args.query.now (first_unportable o.0) c.in-Some.refusal c.steady_fragments_error.result c.steady_fragments_error.ensures (sym c.in-Some.is ∙ o.2) ((none_unsteady c.args.query.now).1 steady) e)
 
-pub returns-in-Some-first_unportable-clause-bound : goal.returns-in-Some-first_unportable-clause-bound
-returns-in-Some-first_unportable-clause-bound c mode = nothing_said mode c.args.query.now
+pub bind_steady_fragments-requires : goal.bind_steady_fragments-requires
+bind_steady_fragments-requires c =
+    let o = judged_anywhere true c.args.query.now c.query_refusal.result (c.query_refusal.ensures true) in
+    let p = none_told refusal.Unsteady (first_unsteady c.args.query.now) (first_unportable o.0) (sym c.in-None.is ∙ o.2) in
+    (none_unsteady c.args.query.now).0 p.0
 
-pub returns-in-Some-first_unportable-clause-refused : goal.returns-in-Some-first_unportable-clause-refused
-returns-in-Some-first_unportable-clause-refused c mode =
-    let steady = c.first_unsteady.ensures.none.0 c.in_default.is in
-    let o = c.first_unportable.ensures.first in
-    (o.0, steady_other false mode c.args.query.now o.0 steady o.1, (sym c.first_unsteady.ensures.first ∙ c.in_default.is, sym o.2 ∙ c.in-Some-first_unportable.is))
+pub returns-in-None-clause-bound : goal.returns-in-None-clause-bound
+returns-in-None-clause-bound c =
+    let o = judged_anywhere false c.args.query.now c.query_refusal.result (c.query_refusal.ensures false) in
+    let p = none_told refusal.Unsteady (first_unsteady c.args.query.now) (first_unportable o.0) (sym c.in-None.is ∙ o.2) in
+    anywhere_fragments (λ text. text.items) c.bind_steady_fragments.result c.args.query.now (given_fragments c.args.fragments.now) ((none_unsteady c.args.query.now).0 p.0)
+    (o.0, o.1, none_is_portable o.0 p.1) c.bind_steady_fragments.ensures.bound
 
-pub returns-in-Some-first_unportable-clause-unportable : goal.returns-in-Some-first_unportable-clause-unportable
-returns-in-Some-first_unportable-clause-unportable c mode =
-    let steady = c.first_unsteady.ensures.none.0 c.in_default.is in
-    let o = c.first_unportable.ensures.first in
-    (o.0, steady_other false mode c.args.query.now o.0 steady o.1, λ s found e. let same = sym e ∙ (sym o.2 ∙ c.in-Some-first_unportable.is) in cc)
+pub returns-in-None-clause-refused : goal.returns-in-None-clause-refused
+returns-in-None-clause-refused c mode =
+    let o = judged_anywhere mode c.args.query.now c.query_refusal.result (c.query_refusal.ensures mode) in
+    let p = none_told refusal.Unsteady (first_unsteady c.args.query.now) (first_unportable o.0) (sym c.in-None.is ∙ o.2) in
+    refused_fragments_answer false c.bind_steady_fragments.result mode c.args.query.now (given_fragments c.args.fragments.now) first_unportable p.0 (o.0, o.1, p.1) (c.bind_steady_fragments.ensures.refused mode)
 
-pub returns-in-Some-first_unportable-clause-mixed : goal.returns-in-Some-first_unportable-clause-mixed
-returns-in-Some-first_unportable-clause-mixed c mode =
-    let steady = c.first_unsteady.ensures.none.0 c.in_default.is in
-    let o = c.first_unportable.ensures.first in
-    (o.0, steady_other false mode c.args.query.now o.0 steady o.1, λ s e both. let none = sym e ∙ (sym o.2 ∙ c.in-Some-first_unportable.is) in cc)
+pub returns-in-None-clause-unsteady : goal.returns-in-None-clause-unsteady
+returns-in-None-clause-unsteady c at e =
+    let o = judged_anywhere true c.args.query.now c.query_refusal.result (c.query_refusal.ensures true) in
+    let p = none_told refusal.Unsteady (first_unsteady c.args.query.now) (first_unportable o.0) (sym c.in-None.is ∙ o.2) in
+    let no = sym p.0 ∙ e in cc
 
-pub returns-clause-bound : goal.returns-clause-bound
-returns-clause-bound c =
-    let steady = c.first_unsteady.ensures.none.0 c.in_default.is in
-    let p = c.first_unportable.ensures.none in
-    anywhere_fragments (λ text. text.items) c.bind_steady_fragments.result c.args.query.now (given_fragments c.args.fragments.now) steady
-    (p.0, p.1, p.2.0 c.in_default-first_unportable.is) c.bind_steady_fragments.ensures.bound
+pub returns-in-None-clause-unportable : goal.returns-in-None-clause-unportable
+returns-in-None-clause-unportable c mode =
+    let o = judged_anywhere mode c.args.query.now c.query_refusal.result (c.query_refusal.ensures mode) in
+    let p = none_told refusal.Unsteady (first_unsteady c.args.query.now) (first_unportable o.0) (sym c.in-None.is ∙ o.2) in
+    (o.0, o.1, λ steady found e. let no = sym p.1 ∙ e in cc)
 
-pub returns-clause-refused : goal.returns-clause-refused
-returns-clause-refused c mode =
-    let steady = c.first_unsteady.ensures.none.0 c.in_default.is in
-    let o = c.first_unportable.ensures.first in
-    refused_fragments_answer false c.bind_steady_fragments.result mode c.args.query.now (given_fragments c.args.fragments.now) first_unportable (sym c.first_unsteady.ensures.first ∙ c.in_default.is)
-    (o.0, steady_other false mode c.args.query.now o.0 steady o.1, sym o.2 ∙ c.in_default-first_unportable.is) (c.bind_steady_fragments.ensures.refused mode)
-
-pub returns-clause-unportable : goal.returns-clause-unportable
-returns-clause-unportable c mode =
-    let steady = c.first_unsteady.ensures.none.0 c.in_default.is in
-    let o = c.first_unportable.ensures.first in
-    (o.0, steady_other false mode c.args.query.now o.0 steady o.1, λ s found e. let none = sym e ∙ (sym o.2 ∙ c.in_default-first_unportable.is) in cc)
-
-pub returns-clause-mixed : goal.returns-clause-mixed
-returns-clause-mixed c mode =
+pub returns-in-None-clause-mixed : goal.returns-in-None-clause-mixed
+returns-in-None-clause-mixed c mode =
     let o = c.bind_steady_fragments.ensures.mixed mode in
     (o.0, o.1, λ steady e. o.2)

@@ -15,14 +15,14 @@ returns-clause-refused c mode =
     let o = c.bind_wide_in_both_modes_into-outcome.ensures.refused mode in (
       o.0,
       o.1,
-      λ none low told is.
-          ap (λ z. to_z w32 (of_z w32 z)) (c.number.ensures.number ∙ ap (λ x. pos (number_of x)) (o.2 none low told is)) ∙ number_kept told,
+      λ none told is.
+          ap (λ z. to_z w32 (of_z w32 z)) (c.number.ensures.number ∙ ap (λ x. pos (number_of x)) (o.2 none told is)) ∙ number_kept told,
     )
 
 pub returns-clause-mixed : goal.returns-clause-mixed
 returns-clause-mixed c mode =
     let o = c.bind_wide_in_both_modes_into-outcome.ensures.mixed mode in
-    (o.0, o.1, λ none low steady both. ap (λ z. to_z w32 (of_z w32 z)) (c.number.ensures.number ∙ ap (λ x. pos (number_of x)) (o.2 none low steady both)))
+    (o.0, o.1, λ none steady both. ap (λ z. to_z w32 (of_z w32 z)) (c.number.ensures.number ∙ ap (λ x. pos (number_of x)) (o.2 none steady both)))
 
 pub returns-clause-backslash : goal.returns-clause-backslash
 returns-clause-backslash c mode =

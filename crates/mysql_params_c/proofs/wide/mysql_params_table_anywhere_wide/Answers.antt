@@ -12,6 +12,6 @@ returns-clause-refused c mode =
     let o = c.wide_anywhere_table_into-outcome.ensures.refused mode in (
       o.0,
       o.1,
-      λ low told is.
-          ap (λ z. to_z w32 (of_z w32 z)) (c.number.ensures.number ∙ ap (λ x. pos (number_of x)) (o.2 low told is)) ∙ number_kept told,
+      λ told is.
+          ap (λ z. to_z w32 (of_z w32 z)) (c.number.ensures.number ∙ ap (λ x. pos (number_of x)) (o.2 told is)) ∙ number_kept told,
     )

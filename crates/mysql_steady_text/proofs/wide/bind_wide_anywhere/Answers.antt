@@ -6,7 +6,8 @@ use Rattle.mysql_portable.specs.FirstUnportable.{first_unportable}
 use Rattle.mysql_params_core.specs.Given.{Given}
 use Rattle.mysql_binding.specs.FirstCause.{first_cause}
 use Rattle.mysql_steady_text.specs.SteadyAgain.{IsSteadyByPosition}
-use Rattle.mysql_steady_text.specs.WideAnywhere.{IsWideAnywhereText, IsWideSteadyRefusal}
+use Rattle.mysql_steady_text.specs.SteadyTextErrors.{IsSteadyRefusal}
+use Rattle.mysql_steady_text.specs.WideAnywhere.{IsWideAnywhereText}
 use Rattle.mysql_steady_text.proofs.wide.bind_wide_anywhere.Goals as goal
 
 pub returns-clause-bound : goal.returns-clause-bound
@@ -16,7 +17,7 @@ returns-clause-bound c =
 
 pub returns-clause-refused : goal.returns-clause-refused
 returns-clause-refused c =
-    subst (λ (g : Given). (mode : Bool) → OnWideTokens mode c.args.query.now (λ ts. IfErr c.bind_borrowed_wide_anywhere.result (IsWideSteadyRefusal c.args.query.now (first_unportable (lower_names ts)) (first_cause ts g))))
+    subst (λ (g : Given). (mode : Bool) → OnWideTokens mode c.args.query.now (λ ts. IfErr c.bind_borrowed_wide_anywhere.result (IsSteadyRefusal c.args.query.now (first_unportable (lower_names ts)) (first_cause ts g))))
     c.borrowed.ensures c.bind_borrowed_wide_anywhere.ensures.refused
 
 pub returns-clause-by_position : goal.returns-clause-by_position

@@ -11,24 +11,24 @@ use Rattle.mysql_steady_text.proofs.wide_pairs.bind_wide_pairs_anywhere.Goals as
 pub returns-clause-unportable : goal.returns-clause-unportable
 returns-clause-unportable c few given is mode =
     let o = c.in_ok-bind_borrowed_wide_anywhere.ensures.unportable mode in
-    (o.0, o.1, λ steady low found first. let e = o.2 steady low found first in cc)
+    (o.0, o.1, λ steady found first. let e = o.2 steady found first in cc)
 
 pub returns-in_err-bind_borrowed_wide_anywhere-clause-unportable : goal.returns-in_err-bind_borrowed_wide_anywhere-clause-unportable
 returns-in_err-bind_borrowed_wide_anywhere-clause-unportable c few given is mode =
     rw (is_handed_on c.from_residual.result _ c.from_residual.ensures.1) (
     let o = c.in_err-bind_borrowed_wide_anywhere.ensures.unportable mode in
-    (o.0, o.1, λ steady low found first. let e = o.2 steady low found first in cc))
+    (o.0, o.1, λ steady found first. let e = o.2 steady found first in cc))
 
 pub returns-clause-mixed : goal.returns-clause-mixed
 returns-clause-mixed c few given is mode =
     let o = c.in_ok-bind_borrowed_wide_anywhere.ensures.mixed mode in
-    (o.0, o.1, λ steady low portable both. let e = o.2 steady low portable both in cc)
+    (o.0, o.1, λ steady portable both. let e = o.2 steady portable both in cc)
 
 pub returns-in_err-bind_borrowed_wide_anywhere-clause-mixed : goal.returns-in_err-bind_borrowed_wide_anywhere-clause-mixed
 returns-in_err-bind_borrowed_wide_anywhere-clause-mixed c few given is mode =
     rw (is_handed_on c.from_residual.result _ c.from_residual.ensures.1) (
     let o = c.in_err-bind_borrowed_wide_anywhere.ensures.mixed mode in
-    (o.0, o.1, λ steady low portable both. let e = o.2 steady low portable both in cc))
+    (o.0, o.1, λ steady portable both. let e = o.2 steady portable both in cc))
 
 pub returns-in-Some-clause-refused : goal.returns-in-Some-clause-refused
 returns-in-Some-clause-refused c = no_pairs _ c.args.pairs.now c.in-Some.error c.in-Some.ensures.some

@@ -22,24 +22,24 @@ returns-in_err-bind_borrowed_wide_in_both_modes-clause-backslash c few given is 
 pub returns-clause-unportable : goal.returns-clause-unportable
 returns-clause-unportable c few given is mode =
     let o = c.in_ok-bind_borrowed_wide_in_both_modes.ensures.unportable mode in
-    (o.0, o.1, λ none low found first. let e = o.2 none low found first in cc)
+    (o.0, o.1, λ none found first. let e = o.2 none found first in cc)
 
 pub returns-in_err-bind_borrowed_wide_in_both_modes-clause-unportable : goal.returns-in_err-bind_borrowed_wide_in_both_modes-clause-unportable
 returns-in_err-bind_borrowed_wide_in_both_modes-clause-unportable c few given is mode =
     rw (is_handed_on c.from_residual.result _ c.from_residual.ensures.1) (
     let o = c.in_err-bind_borrowed_wide_in_both_modes.ensures.unportable mode in
-    (o.0, o.1, λ none low found first. let e = o.2 none low found first in cc))
+    (o.0, o.1, λ none found first. let e = o.2 none found first in cc))
 
 pub returns-clause-mixed : goal.returns-clause-mixed
 returns-clause-mixed c few given is mode =
     let o = c.in_ok-bind_borrowed_wide_in_both_modes.ensures.mixed mode in
-    (o.0, o.1, λ none low portable both. let e = o.2 none low portable both in cc)
+    (o.0, o.1, λ none portable both. let e = o.2 none portable both in cc)
 
 pub returns-in_err-bind_borrowed_wide_in_both_modes-clause-mixed : goal.returns-in_err-bind_borrowed_wide_in_both_modes-clause-mixed
 returns-in_err-bind_borrowed_wide_in_both_modes-clause-mixed c few given is mode =
     rw (is_handed_on c.from_residual.result _ c.from_residual.ensures.1) (
     let o = c.in_err-bind_borrowed_wide_in_both_modes.ensures.mixed mode in
-    (o.0, o.1, λ none low portable both. let e = o.2 none low portable both in cc))
+    (o.0, o.1, λ none portable both. let e = o.2 none portable both in cc))
 
 pub returns-in-Some-clause-refused : goal.returns-in-Some-clause-refused
 returns-in-Some-clause-refused c = no_pairs_in_both_modes _ c.args.pairs.now c.in-Some.error c.in-Some.ensures.some

@@ -1,0 +1,4 @@
+pub mod ScopeLemmas
+pub mod ResultLemmas
+pub mod ValueLemmas
+pub mod FragmentLemmas

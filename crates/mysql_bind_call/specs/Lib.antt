@@ -1,0 +1,7 @@
+pub mod Accepted
+pub mod AnyGiven
+pub mod FragmentsInBothModes
+pub mod BoundTexts
+pub mod Refusals
+pub mod Pairs
+pub mod Errors

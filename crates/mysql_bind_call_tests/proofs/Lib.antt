@@ -1,0 +1,4 @@
+pub mod AgainLemmas
+pub mod InstanceLemmas
+pub mod PairInstanceLemmas
+pub mod FragmentInstanceLemmas
