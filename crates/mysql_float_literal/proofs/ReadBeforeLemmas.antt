@@ -116,7 +116,7 @@ scanned whole fraction d ds true negative rest w f e none ends =
     (run_is [] whole _ 0 refl w refl) (rw cut at (run_is _ fraction x (a + 1) long f refl))
     (subst (λ n. Tail (whole ++ 46 ∷ (fraction ++ x)) b negative (d ∷ ds) n) len (rw front at (tail (whole ++ 46 ∷ fraction) b negative d ds rest (omega (arith, length-append whole (46 ∷ fraction))) e ends)))
 
-first_digit : (ds rest : List ℕ) → AllDigits 10 ds → 0 < length ds → (eqb (get_or (ds ++ rest) 0 0) 45 ≡ false) × (eqb (get_or (ds ++ rest) 0 0) 43 ≡ false)
+pub first_digit : (ds rest : List ℕ) → AllDigits 10 ds → 0 < length ds → (eqb (get_or (ds ++ rest) 0 0) 45 ≡ false) × (eqb (get_or (ds ++ rest) 0 0) 43 ≡ false)
 first_digit [] rest h l = absurd (omega arith)
 first_digit (d ∷ ds) rest h l = let r = digit_from_value d h.0 in (ne_eqb d 45 (λ e. omega arith), ne_eqb d 43 (λ e. omega arith))
 

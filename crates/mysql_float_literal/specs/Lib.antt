@@ -1,6 +1,9 @@
 pub mod DoubleShape
 pub mod DoubleSpelling
 pub mod DoubleTest
+pub mod DigitSteps
+pub mod DoubleDigits
 pub mod DoubleEnds
 pub mod ReadDouble
 pub mod DoubleText
+pub mod WrittenParts

@@ -1,5 +1,6 @@
 //! A double and the number that is written for it.
 ghost use Rattle.std.specs.Prelude.{◌≤◌, take, IsTrue};
+ghost use Rattle.mysql_float_literal.specs.DoubleDigits.{HasShortestDigits, HasClosestDigits};
 ghost use Rattle.mysql_float_literal.specs.DoubleSpelling.{IsSpelledDouble};
 ghost use Rattle.mysql_float_literal.specs.DoubleTest.{is_double};
 ghost use Rattle.mysql_float_literal.specs.ReadDouble.{reads_finite};
@@ -15,6 +16,8 @@ pub struct Double {
     ghost within: { len ≤ 27 },
     ghost shaped: { IsTrue (is_double (take len room)) },
     ghost spelled: { IsSpelledDouble (take len room) },
+    ghost shortest: { HasShortestDigits (take len room) },
+    ghost closest: { HasClosestDigits (take len room) },
     ghost finite: { IsTrue (reads_finite (take len room)) },
 }
 
@@ -68,23 +71,28 @@ impl Double {
     {
         let mut text = [0; 32];
         let len = put_finite(double, &mut text);
-        let mut room = [0; 27];
-        let front = &text[..27];
-        room.copy_from_slice(front);
-        Double {
-            room,
-            len: len as u8,
+        match text.first_chunk::<27>() {
+            Some(room) => Double {
+                room: *room,
+                len: len as u8,
+            },
+            None => unreachable!(),
         }
     }
 
     /// Its text, of at most 27 bytes. It is a number with an exponent (`shape`) in the one spelling
     /// of its digits (`spelled`): `1.5e0`, never `15e-1`. It reads as the double (`exact`), which
-    /// is finite. Other digits may read as the double, and no clause says which are taken.
+    /// is finite. No number with fewer digits reads as it (`shortest`): `0.1e0`, never
+    /// `0.1000000000000000056e0`. Of those with as few it is the closest, at a tie the even one
+    /// (`closest`): `5e-324`, never `4e-324`. So a double has only this text
+    /// (`laws::one_double_text`).
     pub fn as_bytes(&self) -> &[u8]
         ensures text { result.now ≡ double_text self.now }
         ensures short { length result.now ≤ 27 }
         ensures shape { IsDouble result.now }
         ensures spelled { IsSpelledDouble result.now }
+        ensures shortest { HasShortestDigits result.now }
+        ensures closest { HasClosestDigits result.now }
         ensures exact { parse_float binary64 result.now ≡ Some (double_value self.now) }
         ensures finite { IsTrue (float_is_finite (double_value self.now)) }
     {

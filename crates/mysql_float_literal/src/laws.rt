@@ -3,11 +3,12 @@ ghost use Rattle.std.specs.Prelude.{◌≡◌, ℕ, ◌↔◌, List, Some, IsTru
 ghost use Rattle.std.specs.Float.{binary64};
 ghost use Rattle.std.specs.Float.Ieee.{Float};
 ghost use Rattle.std.specs.Float.Parse.{parse_float};
+ghost use Rattle.mysql_float_literal.specs.DoubleDigits.{HasShortestDigits, HasClosestDigits};
 ghost use Rattle.mysql_float_literal.specs.DoubleEnds.{begins_number, ends_in_digit};
 ghost use Rattle.mysql_float_literal.specs.DoubleShape.{IsDouble};
 ghost use Rattle.mysql_float_literal.specs.DoubleSpelling.{AreSameNumber, DoubleSpelling, IsSpelledDouble};
 ghost use Rattle.mysql_float_literal.specs.DoubleTest.{is_double};
-ghost use Rattle.mysql_float_literal.specs.DoubleText.{double_text};
+ghost use Rattle.mysql_float_literal.specs.DoubleText.{double_text, double_value};
 ghost use Rattle.mysql_float_literal.specs.ReadDouble.{ReadsAs};
 ghost use Rattle.mysql_float_literal.specs.declared.double.Double as written;
 
@@ -31,12 +32,20 @@ pub fn ends_of_doubles()
 
 /// The text of each [`Double`](crate::Double) is in the one spelling of its number (`spelled`). A
 /// decimal number has only one: two such texts of the same sign and the same number are the same
-/// (`same`). Other texts that read as 1.5 aren't in it (`two_digits`, `zeros_in_front`,
+/// (`same`). So a double has only one text. Two such texts are the same if they read as one float
+/// and each has its shortest digits and the closest (`one`). Doubles of one value have one text
+/// (`value`). Other texts that read as 1.5 aren't in the spelling (`two_digits`, `zeros_in_front`,
 /// `zero_at_the_end`).
 pub fn one_double_text()
     ensures spelled { (double : written.Double) → IsSpelledDouble (double_text double) }
     ensures same { (a b : List ℕ) → (x : DoubleSpelling a) → (y : DoubleSpelling b) →
         x.negative ≡ y.negative → AreSameNumber x.parts y.parts → a ≡ b }
+    ensures one { (a b : List ℕ) (x : Float) → IsSpelledDouble a → IsSpelledDouble b
+        → parse_float binary64 a ≡ Some x → parse_float binary64 b ≡ Some x
+        → HasShortestDigits a → HasShortestDigits b → HasClosestDigits a → HasClosestDigits b
+        → a ≡ b }
+    ensures value { (a b : written.Double) → double_value a ≡ double_value b →
+        double_text a ≡ double_text b }
     ensures two_digits { ¬ (IsSpelledDouble (codes "15e-1")) }
     ensures zeros_in_front { ¬ (IsSpelledDouble (codes "0001.5e0")) }
     ensures zero_at_the_end { ¬ (IsSpelledDouble (codes "1.50e0")) }

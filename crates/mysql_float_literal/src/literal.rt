@@ -1,13 +1,20 @@
 //! The text of a double.
-ghost use Rattle.std.specs.Prelude.{◌≡◌, ◌==◌, ◌≤◌, ◌↔◌, ◌+◌, ◌++◌, take, codes, IfSome, IsNone, Some, IsFalse, IsTrue, from_bits};
-ghost use Rattle.std.specs.List.{list_any};
-ghost use Rattle.std.specs.Str.{byte};
+ghost use Rattle.std.specs.Prelude.{◌≡◌, ◌%◌, ◌<◌, ◌≤◌, ◌↔◌, take, IfSome, IsNone, Some, IsFalse, IsTrue, false, from_bits};
 ghost use Rattle.std.specs.Float.{binary32, binary64, float_is_finite};
 ghost use Rattle.std.specs.Float.Parse.{parse_float};
+ghost use Rattle.ryu.specs.Sign.{IsSignAndSize};
+ghost use Rattle.mysql_float_literal.specs.DoubleDigits.{HasShortestDigits, HasClosestDigits, IsShortest, IsClosest};
+ghost use Rattle.mysql_float_literal.specs.DigitSteps.{with_power, AreFiniteBits, IsReading};
 ghost use Rattle.mysql_float_literal.specs.DoubleShape.{IsDouble};
 ghost use Rattle.mysql_float_literal.specs.DoubleSpelling.{IsSpelledDouble};
+ghost use Rattle.mysql_float_literal.specs.WrittenParts.{IsLayoutOfDouble};
 
-use ryu::raw;
+use crate::closest::closest;
+use crate::quick::quick;
+use crate::shortest::shortened;
+use crate::start::start;
+use crate::write::{Layout, layout_of, put_layout, zero_layout};
+use ryu::Float;
 
 /// The double with these bits, if it is finite.
 pub(crate) fn finite_of(bits: u64) -> Option<f64>
@@ -46,35 +53,70 @@ fn if_finite(double: f64) -> Option<f64>
     }
 }
 
+// The layout of the text of the double with these bits and the sign taken off.
+fn layout_of_double(size: u64, double: f64) -> Layout
+    requires bits { size < 0x7ff0000000000000 }
+    requires finite { IsTrue (float_is_finite double) }
+    ensures { IsLayoutOfDouble size result }
+{
+    if size == 0 {
+        return zero_layout();
+    }
+    let (power, digits) = digits_of(size, double);
+    layout_of(power, digits)
+}
+
+// The power and the digits of the closest decimal.
+fn digits_of(size: u64, double: f64) -> (u64, u64)
+    requires bits { AreFiniteBits size }
+    requires finite { IsTrue (float_is_finite double) }
+    ensures reading { IsReading size result.0 result.1 }
+    ensures shortest { IsShortest false (with_power result.0 result.1) }
+    ensures closest { IsClosest false (with_power result.0 result.1) }
+    ensures trimmed { 0 < result.1 % 10 }
+{
+    match quick(size) {
+        Some(found) => found,
+        None => stepped(size, double),
+    }
+}
+
+// The power and the digits of the closest decimal, by steps from the one that ryu writes.
+#[cold]
+#[inline(never)]
+fn stepped(size: u64, double: f64) -> (u64, u64)
+    requires bits { AreFiniteBits size }
+    requires finite { IsTrue (float_is_finite double) }
+    ensures reading { IsReading size result.0 result.1 }
+    ensures shortest { IsShortest false (with_power result.0 result.1) }
+    ensures closest { IsClosest false (with_power result.0 result.1) }
+    ensures trimmed { 0 < result.1 % 10 }
+{
+    let (power, digits) = start(size, double);
+    let (power, digits) = shortened(size, power, digits);
+    closest(size, power, digits)
+}
+
 /// Writes a finite double to the front, and returns the length of its text.
 pub(crate) fn put_finite(double: f64, out: &mut [u8; 32]) -> usize
     requires { IsTrue (float_is_finite double) }
     ensures exact { parse_float binary64 (take result out.new) ≡ Some double }
     ensures shape { IsDouble (take result out.new) }
     ensures spelled { IsSpelledDouble (take result out.new) }
+    ensures shortest { HasShortestDigits (take result out.new) }
+    ensures closest { HasClosestDigits (take result out.new) }
     ensures short { result ≤ 27 }
 {
-    let len = raw::format(double, out);
-    if has_exponent(&out[..len]) {
-        return len;
-    }
-    put_zero_exponent(out, len)
+    let (negative, size) = sign_and_size(double);
+    put_layout(out, negative, layout_of_double(size, double))
 }
 
-// Whether the text has an `e`.
-fn has_exponent(text: &[u8]) -> bool
-    ensures { result ≡ list_any (λ b. b == byte "e") text.now }
+// The sign of a finite double, and its bits without the sign.
+fn sign_and_size(double: f64) -> (bool, u64)
+    requires { IsTrue (float_is_finite double) }
+    ensures parts { IsSignAndSize binary64 double result.0 result.1 }
+    ensures finite { result.1 < 0x7ff0000000000000 }
 {
-    text.iter().any(|b| *b == b'e')
-}
-
-// Writes the exponent 0 from index `len` on, and returns the index after it.
-fn put_zero_exponent(out: &mut [u8; 32], len: usize) -> usize
-    requires { len ≤ 30 }
-    ensures end { result ≡ len + 2 }
-    ensures text { take result out.new ≡ take len out.old ++ codes "e0" }
-{
-    out[len] = b'e';
-    out[len + 1] = b'0';
-    len + 2
+    let bits = double.raw_bits();
+    (bits >= 0x8000_0000_0000_0000, bits & 0x7fff_ffff_ffff_ffff)
 }

@@ -74,6 +74,7 @@ pub use Rattle.mysql_query_core.specs.RunErrors
 pub use Rattle.mysql_io.specs.ReadersAndWriters
 pub use Rattle.mysql_float_literal.specs.DoubleShape
 pub use Rattle.mysql_float_literal.specs.DoubleSpelling
+pub use Rattle.mysql_float_literal.specs.DoubleDigits
 pub use Rattle.mysql_float_literal.specs.DoubleTest
 pub use Rattle.mysql_float_literal.specs.DoubleEnds
 pub use Rattle.mysql_float_literal.specs.ReadDouble

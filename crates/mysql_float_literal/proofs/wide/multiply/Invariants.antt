@@ -1,0 +1,8 @@
+use Rattle.std.proofs.Common.{◌≡◌, ℕ, ◌+◌, ◌*◌, ◌≤◌, get_or}
+use Rattle.core.specs.Dec2flt.Limbs.{limb_weight, value_below}
+use Rattle.mysql_float_literal.proofs.wide.multiply.Given as goal
+
+abbrev pub invariant-loop-i : goal.invariant-loop-i
+invariant-loop-i l =
+    (value_below l.limbs l.i + l.carry * limb_weight l.i ≡ value_below l.fn.limbs l.i * l.by)
+    × ((k : ℕ) → l.i ≤ k → get_or l.limbs k 0 ≡ get_or l.fn.limbs k 0)
