@@ -76,11 +76,6 @@ pub parted : (mode : Bool) (text : List ℕ) (ts : List Token) (found : FoundPla
     IsPartedAt mode text ts found
 parted mode = parted_in (grammar_reading mode)
 
-pub found_in_range : (mode : Bool) (text : List ℕ) (found : FoundPlace) →
-    OnTokens mode text (λ us. IsFirstPlace us found) →
-    (0 < found.len) × (found.before + found.len ≤ length text)
-found_in_range mode = found_in_range_in (grammar_reading mode)
-
 -- ---- the names and marks of tokens that are parted at their first place
 
 pub names-no_place : (front : List Token) → place_count front ≡ 0 → names front ≡ []

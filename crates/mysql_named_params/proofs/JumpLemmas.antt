@@ -3,7 +3,7 @@ use Rattle.std.specs.Prelude.{Option}
 use Rattle.std.proofs.Common.{◌≡◌, ◌≢◌, ℕ, zero, suc, ◌+◌, ◌<◌, ◌≤◌, true, false, ne_eqb, eq-eqb, ◌==◌, subst, List, [], ◌∷◌, length, length-drop, length-append, length-take-le, take, drop, take-append-drop, get_or, Some, None, refl, sym, ap, ◌∙◌, inl, inr, arith, true≢false}
 use Rattle.std.proofs.lemmas.List.{drop_more, drop_all}
 use Rattle.std.proofs.lemmas.List.Prefix.{at_from_reads, at_reads}
-use Rattle.std.proofs.lemmas.Bool.{cases_Bool, and_right, or_cases, or_parts, eqb-true, eqb-false, not-true, not-false}
+use Rattle.std.proofs.lemmas.Bool.{cases_Bool, or_cases, or_parts, eqb-true, eqb-false, not-true, not-false}
 use Rattle.memchr.specs.Find.{OccursAt, FindsNeedle, IsFirstByte, Passes, is_byte}
 use Rattle.memchr.proofs.lemmas.FindLemmas.{IsFirst-wider, IsFirst-agree, OccursAt-byte, byte-OccursAt}
 use Rattle.mysql_named_params.specs.Bytes.{asterisk, slash, IsUpTo}
@@ -77,13 +77,6 @@ run_from_front w ws text n le none =
     let same : 0 + n ≡ n = omega arith in
     let start : IsNotReached (w ∷ ws) text 0 = omega arith in
     subst (IsNotReached (w ∷ ws) text) same (run_over w ws text 0 n (omega arith) (λ k low high. none k low (omega arith)) start)
-
--- a star before another byte
-pub no_slash_after : (text : List ℕ) (at : ℕ) → at + 1 < length text → get_or text (at + 1) 0 ≢ slash →
-    IsNotReached (asterisk ∷ slash ∷ []) text at → IsNotReached (asterisk ∷ slash ∷ []) text (at + 1)
-no_slash_after text at lt n =
-    let none : begins_with (slash ∷ []) (drop (at + 1) text) ≡ false = ap (begins_with (slash ∷ [])) (drop_more text (at + 1) 0 lt) ∙ rw (ne_eqb slash (get_or text (at + 1) 0) (λ e. n (sym e))) refl in
-    step_over (asterisk ∷ slash ∷ []) text at (omega arith) (and_right (asterisk == get_or text at 0) (begins_with (slash ∷ []) (drop (at + 1) text)) none)
 
 pub either_is : (w b : ℕ) → is_neither w w b ≡ false → b ≡ w
 either_is w b h = elim (or_cases (b == w) (b == w) (not-false _ h)) [ inl e ↦ eqb-true b w e | inr e ↦ eqb-true b w e ]

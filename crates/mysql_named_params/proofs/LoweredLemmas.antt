@@ -6,7 +6,7 @@ use Rattle.std.proofs.Common.{◌≡◌, ◌+◌, ◌++◌, ◌≤◌, ◌||◌,
 use Rattle.std.proofs.Math.Seq.{take-add}
 use Rattle.std.proofs.lemmas.Bool.{and_from, and_parts}
 use Rattle.std.proofs.lemmas.Bool.Decides.{nat_tests}
-use Rattle.std.proofs.lemmas.List.{length-map, nil_from_length, take-append-drop}
+use Rattle.std.proofs.lemmas.List.{length-map, take-append-drop}
 use Rattle.mysql_named_params.specs.Bytes.{begins, colon, is_name_byte, is_start_byte, is_string_quote}
 use Rattle.mysql_named_params.specs.FirstPlace.{IsFirstPlace, place_kind}
 use Rattle.mysql_named_params.specs.LoweredNames.{have_capitals, lower_names}
@@ -20,7 +20,6 @@ use Rattle.mysql_named_params.specs.declared.places.Reading.{Reading}
 use Rattle.mysql_named_params.proofs.FoundPlaceLemmas.{IsPartedIn, parted_in}
 use Rattle.mysql_named_params.proofs.ReadingLemmas.{one_reading, reading_exists, reading_text}
 use Rattle.mysql_named_params.proofs.RestLemmas.{OpensNothing, SameUpToPlace, at_end, same, at_place, same-append, IsToken-move}
-use Rattle.mysql_named_params.proofs.TokenRowLemmas.{place_count-sum}
 use Rattle.mysql_named_params.proofs.WideLemmas.{goes_on, opens, stays, plain_case, run_all, run_name, wide_of_name}
 
 -- ---- names in lower case
@@ -193,63 +192,6 @@ lowered_all reading query rest at text s rest_is o =
     (s.all, s.tokens, sym (take-append-drop at text) ∙ (ap (λ x. take at text ++ x) (sym left) ∙ s.front_is))
 
 -- ---- capitals
-
--- the names that are left have capitals if those of the query have
-pub record CapitalsLeft (reading : Reading) (query rest : List ℕ) : Type 0 where
-  pub all : List Token
-  pub tokens : IsTokensIn reading query all
-  pub left : List Token
-  pub rest_tokens : IsTokensIn reading rest left
-  pub same_capitals : have_capitals (names left) ≡ have_capitals (names all)
-
-pub capitals_none : (reading : Reading) (query : List ℕ) → CapitalsLeft reading query query
-capitals_none reading query =
-    let t = reading_exists reading query in
-    record { all = t.0; tokens = t.1; left = t.0; rest_tokens = t.1; same_capitals = refl }
-
-names_after : (front : List Token) (ts : List Token) → place_count front ≡ 0 → names (front ++ ts) ≡ names ts
-names_after [] ts none = refl
-names_after (Name name ∷ front) ts none = absurd (omega arith)
-names_after (Mark ∷ front) ts none = absurd (omega arith)
-names_after (t ∷ front) ts none = names_after front ts none
-
-place_capital : (place : Token) (k : PlaceKind) (back : List Token) → place_kind place ≡ Some k →
-    have_capitals (names (place ∷ back)) ≡ (list_any is_capital (bytes_of place) || have_capitals (names back))
-place_capital (Name name) k back e = refl
-place_capital Mark k back e = refl
-place_capital t k back e = cc
-
-module _ (reading : Reading) (query rest : List ℕ) (found : FoundPlace) (s : CapitalsLeft reading query rest) (o : OnTokensIn reading rest (λ us. IsFirstPlace us found)) (place : List ℕ) (place_is : place ≡ take found.len (drop found.before rest)) where
-  here : IsPartedIn reading rest s.left found
-  here = parted_in reading rest s.left found s.rest_tokens o
-
-  left_is : have_capitals (names s.left) ≡ (list_any is_capital place || have_capitals (names here.back))
-  left_is =
-      ap (λ x. have_capitals (names x)) here.tokens_are
-      ∙ (ap have_capitals (names_after here.front (here.place ∷ here.back) here.no_place)
-      ∙ (place_capital here.place found.kind here.back here.kind_is
-      ∙ ap (λ x. list_any is_capital x || have_capitals (names here.back)) (here.place_bytes ∙ sym place_is)))
-
-  pub capital_found : list_any is_capital place ≡ true → OnTokensIn reading query (λ ts. true ≡ have_capitals (names ts))
-  capital_found h = (s.all, s.tokens, sym (sym s.same_capitals ∙ (left_is ∙ ap (λ b. b || have_capitals (names here.back)) h)))
-
-  pub capitals_more : (after : List ℕ) → list_any is_capital place ≡ false → after ≡ drop (found.before + found.len) rest →
-      CapitalsLeft reading query after
-  capitals_more after h after_is = record {
-    all = s.all;
-    tokens = s.tokens;
-    left = here.back;
-    rest_tokens = subst (λ x. IsTokensIn reading x here.back) (sym after_is) here.rest_tokens;
-    same_capitals = sym (left_is ∙ ap (λ b. b || have_capitals (names here.back)) h) ∙ s.same_capitals;
-  }
-
--- a query without places has no names
-pub capitals_all : (reading : Reading) (query rest : List ℕ) → CapitalsLeft reading query rest →
-    OnTokensIn reading rest (λ us. place_count us ≡ 0) → OnTokensIn reading query (λ ts. false ≡ have_capitals (names ts))
-capitals_all reading query rest s o =
-    let same : o.0 ≡ s.left = one_reading reading rest o.0 s.left o.1 s.rest_tokens in
-    let none : names s.left ≡ [] = nil_from_length (names s.left) (omega (arith, place_count-sum s.left, ap place_count same, o.2)) in
-    (s.all, s.tokens, ap have_capitals (sym none) ∙ s.same_capitals)
 
 or_false : (a b : Bool) → (a || b) ≡ false → (a ≡ false) × (b ≡ false)
 or_false true b h = absurd (true≢false h)

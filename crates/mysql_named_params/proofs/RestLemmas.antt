@@ -34,10 +34,6 @@ pub data SameUpToPlace : List ℕ → List ℕ → Type 0 where
   at_place : {b : ℕ} {x y : List ℕ} → (b ≡ colon) ⊎ (b ≡ question_mark) → OpensNothing y →
       SameUpToPlace (b ∷ x) y
 
-pub same-refl : (x : List ℕ) → SameUpToPlace x x
-same-refl [] = at_end
-same-refl (b ∷ x) = same (same-refl x)
-
 pub same-append : (bytes : List ℕ) {x y : List ℕ} → SameUpToPlace x y →
     SameUpToPlace (bytes ++ x) (bytes ++ y)
 same-append [] a = a

@@ -1,7 +1,6 @@
 -- `TokensOf` computes the tokens of the grammar.
-use Rattle.std.proofs.Common.{◌≡◌, ◌≢◌, ℕ, zero, suc, ◌+◌, ◌-◌, ◌<◌, ◌≤◌, get_or, eq-eqb, Bool, true, false, ◌==◌, ◌&&◌, nat_eq, List, [], ◌∷◌, ◌++◌, length, take, drop, refl, sym, ap, ◌∙◌, subst, inl, inr, arith, append_assoc, length-append, ne_eqb, true≢false, take_at, take-append-drop}
-use Rattle.std.specs.List.{starts_with}
-use Rattle.std.proofs.lemmas.List.{drop_more, drop_all, take_rest}
+use Rattle.std.proofs.Common.{◌≡◌, ◌≢◌, ℕ, zero, suc, ◌+◌, ◌-◌, ◌<◌, ◌≤◌, get_or, eq-eqb, Bool, true, false, ◌==◌, List, [], ◌∷◌, ◌++◌, length, take, drop, refl, sym, ap, ◌∙◌, subst, inl, inr, arith, append_assoc, length-append, ne_eqb, true≢false, take_at, take-append-drop}
+use Rattle.std.proofs.lemmas.List.{drop_more, drop_all}
 use Rattle.std.proofs.lemmas.Bool.{cases_Bool, cases_lt, and_from, eqb-true, eqb-false}
 use Rattle.mysql_named_params.specs.Bytes.{is_name_byte, Lacks, HoldsOnlyAtEnd, IsUpTo, up_to_word, up_to_end}
 use Rattle.mysql_sql_text.specs.StringUnits.{is_escape}
@@ -174,9 +173,6 @@ string_skips mode q text i n lt inv =
     let e : string_len mode q true (drop i text) ≡ suc (string_len mode q false (drop (i + 1) text)) = rw (drop_more text i 0 lt) refl in
     omega arith
 
-string_len-nil : (mode : Bool) (q : ℕ) (escaped : Bool) → string_len mode q escaped [] ≡ 0
-string_len-nil mode q escaped = refl
-
 pub string_ends : (mode : Bool) (q : ℕ) (escaped : Bool) (text : List ℕ) (i n : ℕ) →
     length text ≤ i → i ≤ length text → i + string_len mode q escaped (drop i text) ≡ n →
     length text ≡ n
@@ -184,38 +180,6 @@ string_ends mode q escaped text i n le ge inv =
     let e : string_len mode q escaped (drop i text) ≡ 0 = rw (drop_all i text le) refl in
     omega arith
 
--- std's `starts_with` is the definition here
-pub starts_with-begins_with : (word text : List ℕ) → starts_with nat_eq text word ≡ begins_with word text
-starts_with-begins_with [] text = refl
-starts_with-begins_with (w ∷ ws) [] = refl
-starts_with-begins_with (w ∷ ws) (b ∷ bs) = ap (λ x. (w == b) && x) (starts_with-begins_with ws bs)
-
 -- &text[i..]
 abbrev pub slice_from : ℕ → List ℕ → List ℕ
 slice_from i text = take (length text - i) (drop i text)
-
-pub word_stops : (word text : List ℕ) (i n : ℕ) → 0 < length word →
-    starts_with nat_eq (slice_from i text) word ≡ true → length word ≤ length (slice_from i text) →
-    i + len_up_to word (drop i text) ≡ n → i + length word ≡ n
-word_stops word text i n some here le inv =
-    let e : len_up_to word (drop i text) ≡ length word = stops (drop i text) (sym (starts_with-begins_with word (drop i text)) ∙ (rw take_rest at here)) (rw take_rest at le) in
-    omega arith
-  where
-    stops : (xs : List ℕ) → begins_with word xs ≡ true → length word ≤ length xs →
-        len_up_to word xs ≡ length word
-    stops [] h le = omega arith
-    stops (b ∷ bs) h le = rw h refl
-
-pub word_goes_on : (word text : List ℕ) (i n : ℕ) → i < length text →
-    starts_with nat_eq (slice_from i text) word ≡ false → i + len_up_to word (drop i text) ≡ n →
-    i + 1 + len_up_to word (drop (i + 1) text) ≡ n
-word_goes_on word text i n lt other inv =
-    let h : begins_with word (get_or text i 0 ∷ drop (i + 1) text) ≡ false = ap (begins_with word) (sym (drop_more text i 0 lt)) ∙ (sym (starts_with-begins_with word (drop i text)) ∙ (rw take_rest at other)) in
-    let e : len_up_to word (drop i text) ≡ suc (len_up_to word (drop (i + 1) text)) = rw (drop_more text i 0 lt, h) refl in
-    omega arith
-
-pub word_ends' : (word text : List ℕ) (i n : ℕ) → length text ≤ i → i ≤ length text →
-    i + len_up_to word (drop i text) ≡ n → length text ≡ n
-word_ends' word text i n le ge inv =
-    let e : len_up_to word (drop i text) ≡ 0 = rw (drop_all i text le) refl in
-    omega arith

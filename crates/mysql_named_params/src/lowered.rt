@@ -1,42 +1,12 @@
 //! Queries with their names in lower case.
 ghost use Rattle.std.specs.Prelude.{◌≡◌, ◌+◌, ◌-◌, ◌++◌, ◌≤◌, IfOk, drop, length, map, take};
 ghost use Rattle.std.specs.Char.{to_ascii_lowercase};
-ghost use Rattle.std.specs.List.{list_any};
-ghost use Rattle.mysql_named_params.specs.LoweredNames.{have_capitals, lower_names};
-ghost use Rattle.mysql_named_params.specs.Places.{names};
+ghost use Rattle.mysql_named_params.specs.LoweredNames.{lower_names};
 ghost use Rattle.mysql_named_params.specs.Reading.{OnTokensIn, OnWideTokens};
 ghost use Rattle.mysql_named_params.specs.Tokens.{text_of};
-ghost use Rattle.mysql_named_params.specs.WideNames.{is_capital};
 
 use crate::places::{Reading, first_place_in};
 use std::alloc::{AllocError, Global};
-
-/// Whether a wide name of a query has a capital. It allocates nothing. For the crates above.
-pub fn has_capitals(query: &[u8], no_backslash_escape: bool) -> bool
-    ensures { OnWideTokens no_backslash_escape query.now (λ ts.
-        result ≡ have_capitals (names ts)) }
-{
-    let reading = Reading {
-        no_backslash_escape,
-        wide_names: true,
-    };
-    let mut rest = query;
-    while let Some(found) = first_place_in(rest, reading) {
-        let (_, place, after) = found.cut(rest);
-        if holds_capital(place) {
-            return true;
-        }
-        rest = after;
-    }
-    false
-}
-
-// Whether the text has a capital.
-fn holds_capital(text: &[u8]) -> bool
-    ensures { result ≡ list_any is_capital text.now }
-{
-    text.iter().any(|byte| byte.is_ascii_uppercase())
-}
 
 /// The query with its wide names in lower case, so that they are names of the grammar. All other
 /// bytes and all positions stay the same. For the crates above.

@@ -43,13 +43,20 @@ impl FoundPlace {
     }
 }
 
-/// How a query is read: the mode, and the kind of names. For the crates above; no user needs it.
+/// How a query is read: the mode, and the kind of names.
 #[derive(Clone, Copy, Debug, PartialEq, Eq)]
 pub struct Reading {
     /// Whether a backslash is a byte like any other in strings, as for an `sql_mode` with
     /// `NO_BACKSLASH_ESCAPES`.
     pub no_backslash_escape: bool,
-    /// Whether names are wide names, which can have capitals.
+    /// Whether names are wide names, which can have capitals, such as `:userId` and `:ID`.
+    ///
+    /// A wide name is a `:`, a letter of ASCII or `_`, and all such letters, digits and `_` that
+    /// follow. Names are case-sensitive. Each `:` before a letter or `_` outside of strings, quoted
+    /// names and comments begins a wide name, whatever comes before it.
+    ///
+    /// So `x::Text` and `lbl:LOOP` are refused as places that don't stand alone, and are left as
+    /// they are without wide names. A query whose names have no capitals gives the same text.
     pub wide_names: bool,
 }
 

@@ -3,7 +3,7 @@ use Rattle.std.specs.Prelude.{Bool, IsTrue, ⊤}
 use Rattle.std.proofs.Common.{◌≡◌, ◌⊎◌, ℕ, zero, suc, ◌+◌, ◌≤◌, true, false, cond, not, ◌==◌, ◌&&◌, ◌||◌, List, [], ◌∷◌, ◌++◌, length, take, drop, Option, None, refl, sym, ap, ◌∙◌, subst, inl, inr, arith, true≢false, take-append-drop}
 use Rattle.std.proofs.lemmas.List.{append_cancel_left}
 use Rattle.std.proofs.lemmas.Bool.{cases_Bool, and_parts, or_parts, or_cases, not-true, not-false, eqb-true}
-use Rattle.mysql_named_params.specs.Bytes.{asterisk, backquote, colon, dash, hash, newline, question_mark, slash, is_start_byte, is_string_quote, is_white_space, begins, IsUpTo}
+use Rattle.mysql_named_params.specs.Bytes.{asterisk, backquote, colon, dash, hash, newline, question_mark, slash, is_start_byte, is_string_quote, begins, IsUpTo}
 use Rattle.mysql_named_params.specs.Tokens.{Token, bytes_of, text_of, IsToken, IsTokens, AreTokensBefore, QuotedString, QuotedIdentifier, HashComment, DashComment, BlockComment, Name, Mark, Plain}
 use Rattle.mysql_named_params.specs.Places.{names, marks}
 use Rattle.mysql_named_params.specs.Positions.{positions_from}
@@ -108,13 +108,6 @@ begins_nothing_at mode b rest h =
 abbrev pub BeginNothing : List ℕ → List ℕ → Type 0
 BeginNothing rest [] = ⊤
 BeginNothing rest (b ∷ bs) = IsTrue (not (may_begin_something b (bs ++ rest))) × BeginNothing rest bs
-
-pub star_slash : List ℕ
-star_slash = asterisk ∷ slash ∷ []
-
--- a text that stands apart doesn't begin with `*`
-white_no_asterisk : (b : ℕ) → is_white_space b ≡ true → (b == asterisk) ≡ false
-white_no_asterisk b h = grind arith
 
 apart_no_asterisk : (text : List ℕ) → stands_apart text ≡ true → begins (λ x. x == asterisk) text ≡ false
 apart_no_asterisk [] h = refl

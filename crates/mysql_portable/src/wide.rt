@@ -1,7 +1,6 @@
 //! The first construct that isn't portable in a query with wide names, which can have capitals.
-ghost use Rattle.std.specs.Prelude.{◌≡◌, ◌↔◌, ◌≤◌, ◌<◌, length, true, IfOk, None, OnErr};
-ghost use Rattle.mysql_named_params.specs.LoweredNames.{have_capitals, lower_names};
-ghost use Rattle.mysql_named_params.specs.Places.{names};
+ghost use Rattle.std.specs.Prelude.{◌≡◌, ◌↔◌, ◌≤◌, ◌<◌, length, None};
+ghost use Rattle.mysql_named_params.specs.LoweredNames.{lower_names};
 ghost use Rattle.mysql_named_params.specs.Reading.{OnTokensIn, OnWideTokens};
 ghost use Rattle.mysql_named_params.specs.WideNames.{is_wide_start};
 ghost use Rattle.mysql_portable.specs.ByStart.{begins_exponent_by, begins_fraction_by, begins_place_by, begins_tag_by, block_construct_by, found_in_front_by, front_construct_by, is_dash_before_place_by, is_quiet_by, may_begin_something_by, number_construct_by};
@@ -21,7 +20,6 @@ use crate::portable::{
 };
 use mysql_named_params::places::Reading;
 use mysql_named_params::tokens::{first_token, opens_wide_name, wide_len};
-use std::alloc::{AllocError, Global};
 
 // Whether the byte begins a wide name.
 fn is_wide_start(byte: u8) -> bool
@@ -297,36 +295,4 @@ pub fn first_unportable_in_client_in(query: &[u8], reading: Reading) -> Option<U
     } else {
         first_unportable_in_client(query, reading.no_backslash_escape)
     }
-}
-
-/// [`first_unportable_in`] of a query with wide names. It needs no memory.
-pub fn first_unportable_wide(
-    _alloc: Global,
-    query: &[u8],
-    no_backslash_escape: bool,
-) -> Result<Option<Unportable>, AllocError>
-    ensures first { IfOk result (λ found. OnWideTokens no_backslash_escape query.now (λ ts.
-        found ≡ first_unportable (lower_names ts))) }
-    ensures none { IfOk result (λ found. OnWideTokens no_backslash_escape query.now (λ ts.
-        (found ≡ None) ↔ IsPortable (lower_names ts))) }
-    ensures memory { OnErr result (OnWideTokens no_backslash_escape query.now (λ ts.
-        have_capitals (names ts) ≡ true)) }
-{
-    Ok(first_of_wide(query, no_backslash_escape))
-}
-
-/// [`first_unportable_in_client_in`] of a query with wide names. It needs no memory.
-pub fn first_unportable_in_client_wide(
-    _alloc: Global,
-    query: &[u8],
-    no_backslash_escape: bool,
-) -> Result<Option<Unportable>, AllocError>
-    ensures first { IfOk result (λ found. OnWideTokens no_backslash_escape query.now (λ ts.
-        found ≡ first_unportable_in_client (lower_names ts))) }
-    ensures none { IfOk result (λ found. OnWideTokens no_backslash_escape query.now (λ ts.
-        (found ≡ None) ↔ IsPortableInClient (lower_names ts))) }
-    ensures memory { OnErr result (OnWideTokens no_backslash_escape query.now (λ ts.
-        have_capitals (names ts) ≡ true)) }
-{
-    Ok(first_of_wide_in_client(query, no_backslash_escape))
 }
