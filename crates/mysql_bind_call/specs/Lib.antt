@@ -5,3 +5,4 @@ pub mod BoundTexts
 pub mod Refusals
 pub mod Pairs
 pub mod Errors
+pub mod InstanceErrors

@@ -65,6 +65,7 @@ abbrev pub mixed_of : AnyGiven → BindRefusal
 mixed_of (values given) = Values bind.Mixed
 mixed_of (fragments given) = Fragments fault.Mixed
 
+-- the same, if the query has both
 abbrev pub mixed_refusal : List Token → AnyGiven → Option BindRefusal
 mixed_refusal ts given = option_map (λ why. mixed_of given) (mixed_cause ts)
 

@@ -2,14 +2,17 @@
 //! ensures.
 ghost use Rattle.std.specs.Prelude.{◌≡◌, ℕ, Bool, List, None, true};
 ghost use Rattle.mysql_named_params.specs.LoweredNames.{lower_names};
-ghost use Rattle.mysql_named_params.specs.Reading.{IsTokensIn, wide_reading};
+ghost use Rattle.mysql_named_params.specs.Reading.{IsTokensIn, reading_with, wide_reading};
 ghost use Rattle.mysql_named_params.specs.Tokens.{Token, IsTokens};
 ghost use Rattle.mysql_portable.specs.FirstUnportableInClient.{IsPortableInClient};
 ghost use Rattle.mysql_portable.specs.Portable.{IsPortable};
 ghost use Rattle.mysql_portable.specs.Steady.{HoldNoEscapes, IsSteady};
 ghost use Rattle.mysql_params_core.specs.Given.{Given};
-ghost use Rattle.mysql_steady_text.specs.BothModesText.{IsPortableInBothModes, IsTextInBothModes};
+ghost use Rattle.mysql_binding.specs.BoundAgain.{IsSameByPosition};
+ghost use Rattle.mysql_binding.specs.Isolation.{IsBoundText};
+ghost use Rattle.mysql_steady_text.specs.BothModesText.{IsByPositionInBothModes, IsPortableInBothModes, IsTextInBothModes};
 ghost use Rattle.mysql_steady_text.specs.Purposes.{query_refusal};
+ghost use Rattle.mysql_steady_text.specs.SteadyAgain.{IsSteadyByPosition};
 ghost use Rattle.mysql_steady_text.specs.SteadyText.{IsAnywhereText, IsSteadyText};
 ghost use Rattle.mysql_steady_text.specs.WideAnywhere.{IsWideAnywhereText};
 ghost use Rattle.mysql_steady_text.specs.WideBothModes.{IsWideTextInBothModes};
@@ -57,4 +60,19 @@ pub fn texts_of_portable_queries()
     ensures wide_in_both_modes { (query text : List ℕ) (ts : List Token) (given : Given) →
         IsTokensIn (wide_reading true) query ts → IsPortable (lower_names ts) →
         IsTextInBothModes ts given text → IsWideTextInBothModes ts given text }
+{}
+
+/// The query with a mark in place of each name, bound by position to the values of the names, isn't
+/// refused and gives the same text. So it is by either kind of names: for one mode (`one_mode`),
+/// for any connection (`any_connection`) and for either mode (`either_mode`).
+pub fn texts_by_position()
+    ensures one_mode { (wide mode : Bool) (query text : List ℕ) (ts : List Token)
+        (given : Given) → IsTokensIn (reading_with wide mode) query ts →
+        IsBoundText mode ts given text → IsSameByPosition mode ts given text }
+    ensures any_connection { (wide mode : Bool) (query text : List ℕ) (ts : List Token)
+        (given : Given) → IsTokensIn (reading_with wide mode) query ts →
+        IsSteadyText ts given text → IsSteadyByPosition mode ts given text }
+    ensures either_mode { (wide mode : Bool) (query text : List ℕ) (ts : List Token)
+        (given : Given) → IsTokensIn (reading_with wide mode) query ts →
+        IsTextInBothModes ts given text → IsByPositionInBothModes mode ts given text }
 {}

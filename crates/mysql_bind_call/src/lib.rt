@@ -9,6 +9,7 @@ mod appended;
 mod borrowed_values;
 mod errors;
 mod fragments;
+mod instances;
 pub mod laws;
 mod one_call;
 mod refusal;
@@ -16,6 +17,12 @@ mod room;
 mod values;
 
 pub use appended::append;
+pub use instances::{
+    bind_fragments, bind_fragments_anywhere, bind_fragments_in, bind_fragments_in_any_mode,
+    bind_pairs, bind_pairs_anywhere, bind_pairs_in_any_mode, bind_pairs_in_both_modes, bind_text,
+    bind_text_anywhere, bind_text_in, bind_text_in_any_mode, bind_text_in_both_modes, bind_values,
+    bind_values_anywhere, bind_values_in_any_mode, bind_values_in_both_modes,
+};
 pub use mysql_steady_text::purpose::{Portability, Purpose, QueryRefusal, Scope};
 pub use one_call::bind;
 pub use refusal::BindRefusal;

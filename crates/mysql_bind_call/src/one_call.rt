@@ -18,9 +18,8 @@ use std::alloc::Global;
 ///
 /// - `Redefined`: a pair has the name of an earlier pair;
 /// - `Query`: the query is refused for the purpose, first for a byte, then for a construct;
-/// - `Values`: a cause of [`bind_text_in`](mysql_binding::bind_text_in), in its order;
-/// - `Fragments`: a cause of [`bind_fragments_in`](mysql_fragments::bind_fragments_in), in its
-///   order;
+/// - `Values`: a cause of [`bind_text_in`](crate::bind_text_in), in its order;
+/// - `Fragments`: a cause of [`bind_fragments_in`](crate::bind_fragments_in), in its order;
 /// - `UnsteadyFragment`: the purpose isn't one mode, and the name of a fragment has a backslash or
 ///   a byte from 128 on.
 ///

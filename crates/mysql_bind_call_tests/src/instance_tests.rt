@@ -1,9 +1,10 @@
 //! Each instance once. The wanted texts are written by the rules of the MySQL Reference Manual,
 //! "String Literals" and "Character Set Introducers".
-use crate::instances::{
+use mysql_bind_call::{
     bind_fragments, bind_fragments_anywhere, bind_fragments_in, bind_fragments_in_any_mode,
-    bind_pairs, bind_pairs_anywhere, bind_text, bind_text_anywhere, bind_text_in,
-    bind_text_in_any_mode, bind_text_in_both_modes, bind_wide_pairs_anywhere,
+    bind_pairs, bind_pairs_anywhere, bind_pairs_in_any_mode, bind_pairs_in_both_modes, bind_text,
+    bind_text_anywhere, bind_text_in, bind_text_in_any_mode, bind_text_in_both_modes, bind_values,
+    bind_values_anywhere, bind_values_in_any_mode, bind_values_in_both_modes,
 };
 use mysql_fragments::{Fragment, Fragments};
 use mysql_params_core::params::Params;
@@ -64,13 +65,29 @@ fn texts_of_parameters_for_one_server_and_for_both_modes(rt: HostRuntime) {
 #[test]
 fn texts_of_pairs(rt: HostRuntime) {
     let alloc = rt.alloc();
-    let narrow = [(b"a".as_slice(), ValueRef::Bytes(b"\\"))];
-    let text = bind_pairs(alloc, b"SELECT :a", &narrow, false).expect(&rt, "a text");
+    let query = b"SELECT :a";
+    let pairs = [(b"a".as_slice(), ValueRef::Bytes(b"\\"))];
+    let text = bind_pairs(alloc, query, &pairs, false).expect(&rt, "a text");
     assert_eq!(rt; text.as_slice(), PLAIN);
-    let text = bind_pairs_anywhere(alloc, b"SELECT :a", &narrow).expect(&rt, "a text");
+    let text = bind_pairs_anywhere(alloc, query, &pairs).expect(&rt, "a text");
     assert_eq!(rt; text.as_slice(), STEADY);
-    let wide = [(b"A".as_slice(), ValueRef::Bytes(b"\\"))];
-    let text = bind_wide_pairs_anywhere(alloc, b"SELECT :A", &wide).expect(&rt, "a text");
+    let text = bind_pairs_in_any_mode(alloc, query, &pairs).expect(&rt, "a text");
+    assert_eq!(rt; text.as_slice(), STEADY);
+    let text = bind_pairs_in_both_modes(alloc, query, &pairs).expect(&rt, "a text");
+    assert_eq!(rt; text.as_slice(), STEADY);
+}
+
+#[test]
+fn texts_of_values(rt: HostRuntime) {
+    let alloc = rt.alloc();
+    let values = [ValueRef::Bytes(b"\\")];
+    let text = bind_values(alloc, QUERY, &values, true).expect(&rt, "a text");
+    assert_eq!(rt; text.as_slice(), RAW);
+    let text = bind_values_anywhere(alloc, QUERY, &values).expect(&rt, "a text");
+    assert_eq!(rt; text.as_slice(), STEADY);
+    let text = bind_values_in_any_mode(alloc, QUERY, &values).expect(&rt, "a text");
+    assert_eq!(rt; text.as_slice(), STEADY);
+    let text = bind_values_in_both_modes(alloc, QUERY, &values).expect(&rt, "a text");
     assert_eq!(rt; text.as_slice(), STEADY);
 }
 

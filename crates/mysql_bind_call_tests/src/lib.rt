@@ -7,7 +7,6 @@ mod ends;
 mod fragments;
 #[cfg(test)]
 mod instance_tests;
-pub mod instances;
 #[cfg(test)]
 mod purposes;
 #[cfg(test)]

@@ -1,5 +1,5 @@
--- The doubles among what a form of groups writes. The text of a double has the digits that are
--- chosen for it, so the same rows have several texts if a double is among them.
+-- The doubles among what a form of groups writes. The law `groups_are_unique` leaves such forms
+-- out, although a double has one text.
 use Rattle.std.specs.Prelude.{◌&&◌, ◌||◌, Bool, true, false, Option, Some, None}
 use Rattle.std.specs.List.{list_any}
 use Rattle.mysql_bind_core.specs.Contents.{Content, ItemContent, content, double_content, double_number, exact_number, list_content, value_item}

@@ -2,8 +2,7 @@
 //! and writes the bound text whole, or refuses and writes nothing.
 //!
 //! [`write_bound`] is the call; `specs/Bound.antt` says what it promises of the text, and
-//! `specs/Refusals.antt` which refusal comes. Names may have capitals, as by
-//! [`bind_wide`](mysql_binding::bind_wide).
+//! `specs/Refusals.antt` which refusal comes. Names may have capitals.
 //!
 //! [`write_rows`] binds one query to row after row, and writes the script of them;
 //! `specs/Scripts.antt` says what it promises of the script.

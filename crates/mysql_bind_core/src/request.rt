@@ -5,10 +5,9 @@ ghost use Rattle.mysql_bind_core.specs.Requests.{mode_of};
 /// How the literals of values are written.
 #[derive(Debug, Clone, Copy, PartialEq, Eq)]
 pub enum Literals {
-    /// So that the text reads the same in every mode and character set of a connection
-    /// ([`bind_wide_anywhere`](mysql_steady_text::bind_wide_anywhere)).
+    /// So that the text reads the same in every mode and character set of a connection.
     Steady,
-    /// For one mode of the server ([`bind_wide_in`](mysql_binding::bind_wide_in)).
+    /// For one mode of the server.
     Plain {
         /// Whether the connection's `sql_mode` has `NO_BACKSLASH_ESCAPES`.
         no_backslash_escape: bool,

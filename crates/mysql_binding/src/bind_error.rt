@@ -3,8 +3,8 @@ use mysql_params_core::params::ParamsError;
 use std::alloc::AllocError;
 use thiserror::Error;
 
-/// The error of [`bind_text`](crate::bind_text) and [`bind_text_in`](crate::bind_text_in): the
-/// first cause for which they gave no text, in this order.
+/// The error of `bind_text` and `bind_text_in`: the first cause for which they gave no text, in
+/// this order.
 #[derive(Debug, PartialEq, Drop, Error)]
 pub enum BindError {
     /// The query has both named and positional parameters.

@@ -4,10 +4,10 @@ use thiserror::Error;
 
 /// The error of binding borrowed pairs to a query.
 ///
-/// [`bind_pairs`](crate::bind_pairs), [`bind_pairs_into`](crate::bind_pairs_into), and `bind_pairs`
-/// and `append_pairs` of a [`ParsedQuery`](crate::ParsedQuery) return it. For at most 64 pairs it
-/// is the first cause for which they gave no text, in this order. For more pairs, out of memory can
-/// be reported before a name that is given twice.
+/// `bind_pairs`, [`bind_pairs_into`](crate::bind_pairs_into), and `bind_pairs` and `append_pairs`
+/// of a [`ParsedQuery`](crate::ParsedQuery) return it. For at most 64 pairs it is the first cause
+/// for which they gave no text, in this order. For more pairs, out of memory can be reported before
+/// a name that is given twice.
 #[derive(Debug, PartialEq, Drop, Error)]
 pub enum BindPairsError {
     /// A pair has the name of an earlier pair. The first such pair is reported.
@@ -16,8 +16,7 @@ pub enum BindPairsError {
         /// Its number among the pairs, from 0.
         index: usize,
     },
-    /// [`bind_text_in`](crate::bind_text_in) would be refused for this cause, or memory was
-    /// refused.
+    /// `bind_text_in` would be refused for this cause, or memory was refused.
     #[error(transparent)]
     Bind(BindError),
 }

@@ -1,11 +1,10 @@
 //! Queries with the literals of values in the places of names and marks.
 ghost use Rattle.std.specs.Prelude.{◌≡◌, false, ℕ, List, [], None, Ok, Some, IfErr, IfOk, IfSome, IsErrOf, length, option_map};
-ghost use Rattle.mysql_sql_text.specs.StringUnits.{with_backslashes};
-ghost use Rattle.mysql_named_params.specs.Tokens.{OnTokens, Token};
+ghost use Rattle.mysql_named_params.specs.Tokens.{Token};
 ghost use Rattle.mysql_named_params.specs.Reading.{OnTokensIn};
 ghost use Rattle.mysql_named_params.specs.declared.places.Reading.{Reading};
 ghost use Rattle.mysql_named_params.specs.Places.{names, HasName, HasMark};
-ghost use Rattle.mysql_params_core.specs.Given.{Given, given};
+ghost use Rattle.mysql_params_core.specs.Given.{Given};
 ghost use Rattle.mysql_params_core.specs.GivenBorrowed.{given_by_borrowed};
 ghost use Rattle.mysql_params_core.specs.Lookup.{LookupRefusal, lookup};
 ghost use Rattle.mysql_params_core.specs.Referents.{referents};
@@ -45,8 +44,7 @@ use crate::binding::literals::{first_float, with_lengths};
 pub use crate::binding::literals::{MeasuredText, literal_len, push_literal, put_literal};
 pub use crate::binding::names::query_names;
 pub use crate::binding::pairs::{
-    bind_pairs, bind_pairs_in, bind_pairs_into, bind_pairs_into_in, bind_values, bind_values_into,
-    bind_values_into_in,
+    bind_pairs_into, bind_pairs_into_in, bind_values_into, bind_values_into_in,
 };
 pub use crate::binding::parsed_query::ParsedQuery;
 pub use crate::binding::place_values::{LiteralValue, PairValues, PlaceValues};
@@ -56,83 +54,11 @@ pub use crate::binding::spans::{PlaceSpan, bind_spans_into, place_spans};
 pub use crate::binding::survey::{Survey, SurveyedQuery};
 use crate::binding::text::written_text;
 pub use crate::binding::text::{append_piece, append_surveyed, fill_measured};
-pub use crate::binding::wide::{
-    bind_wide, bind_wide_in, bind_wide_pairs, bind_wide_pairs_into, bind_wide_values,
-    bind_wide_values_into,
-};
+pub use crate::binding::wide::{bind_wide_pairs_into, bind_wide_values_into};
 pub use crate::binding::wide_query::WideQuery;
 use mysql_named_params::places::{FoundPlace, PlaceKind, Reading};
-use mysql_params_core::params::{BorrowedParams, Params, place_values};
+use mysql_params_core::params::{BorrowedParams, place_values};
 use std::alloc::Global;
-
-/// Binds parameters to a query: returns it with a literal in place of each name and mark. A name
-/// gets its own value. Marks get the positional values, in order. Nothing else of the query
-/// changes.
-///
-/// The call is refused for the first of these causes:
-/// - the query has both names and marks;
-/// - [`Params::into_values`] refuses the query's names;
-/// - the query has no names, and the number of its marks isn't the number of values;
-/// - a name or mark doesn't stand alone;
-/// - a value is a float.
-///
-/// A name or mark stands alone if both sides allow it. Directly before it there is nothing, white
-/// space or one of `(,=<>+-*/%&|^~`. Directly after it there is nothing, white space or one of
-/// `),;=<>+-*/%&|^!`. The parameters are consumed, even if the call is refused.
-///
-/// `no_backslash_escape` is the server's mode. The query is read and the literals are written in
-/// this mode, as [`ParsedNamedParams`](mysql_named_params::named_params::ParsedNamedParams) reads a
-/// query. With `true`, as for an `sql_mode` with `NO_BACKSLASH_ESCAPES`, a backslash is a byte like
-/// any other. With `false`, it escapes the byte after it in a string.
-///
-/// `Memory` can come in place of any other result, except for a query with both names and marks. It
-/// also comes if the text would be longer than `isize::MAX` bytes.
-// A query has one token list in each mode (`mysql_named_params::laws::one_token_list`). So all
-// clauses speak of the same `ts`.
-pub fn bind_text_in(
-    alloc: Global,
-    query: &[u8],
-    params: Params,
-    no_backslash_escape: bool,
-) -> Result<Vec<u8>, BindError>
-    ensures bound { OnTokens no_backslash_escape query.now (λ ts. IfOk result (λ text.
-        IsBoundText no_backslash_escape ts (given params) text.items)) }
-    ensures refused { OnTokens no_backslash_escape query.now (λ ts. IfErr result
-        (IsCauseOrMemory (first_cause ts (given params)))) }
-    ensures bound_again { IfOk result (λ text. IsSameBoundAgain no_backslash_escape text.items) }
-    ensures by_position { OnTokens no_backslash_escape query.now (λ ts. IfOk result (λ text.
-        IsSameByPosition no_backslash_escape ts (given params) text.items)) }
-
-    // A query with a name and a mark is refused without allocating.
-    ensures mixed { OnTokens no_backslash_escape query.now (λ ts.
-        HasName ts × HasMark ts → IsErrOf result BindError.Mixed) }
-{
-    let reading = Reading {
-        no_backslash_escape,
-        wide_names: false,
-    };
-    bind_borrowed_in(alloc, query, params.borrowed(), reading)
-}
-
-/// Binds parameters to a query in the mode in which a backslash escapes: [`bind_text_in`] with
-/// `false`. It is refused for the same causes.
-// A query has one token list (`mysql_named_params::laws::one_token_list`). So all clauses speak of
-// the same `ts`.
-pub fn bind_text(alloc: Global, query: &[u8], params: Params) -> Result<Vec<u8>, BindError>
-    ensures bound { OnTokens with_backslashes query.now (λ ts. IfOk result (λ text.
-        IsBoundText with_backslashes ts (given params) text.items)) }
-    ensures refused { OnTokens with_backslashes query.now (λ ts. IfErr result
-        (IsCauseOrMemory (first_cause ts (given params)))) }
-    ensures bound_again { IfOk result (λ text. IsSameBoundAgain with_backslashes text.items) }
-    ensures by_position { OnTokens with_backslashes query.now (λ ts. IfOk result (λ text.
-        IsSameByPosition with_backslashes ts (given params) text.items)) }
-
-    // A query with a name and a mark is refused without allocating.
-    ensures mixed { OnTokens with_backslashes query.now (λ ts.
-        HasName ts × HasMark ts → IsErrOf result BindError.Mixed) }
-{
-    bind_text_in(alloc, query, params, false)
-}
 
 /// The number of places that are kept on the stack while a query is surveyed. A query with at most
 /// this many places isn't walked again.
@@ -145,33 +71,8 @@ pub const NO_PLACE: FoundPlace = FoundPlace {
     len: 0,
 };
 
-/// [`bind_text_in`] with borrowed parameters, for a query in any reading. For the crates above.
-pub fn bind_borrowed_in(
-    alloc: Global,
-    query: &[u8],
-    params: BorrowedParams<'_, '_>,
-    reading: Reading,
-) -> Result<Vec<u8>, BindError>
-    ensures bound { OnTokensIn reading query.now (λ ts. IfOk result (λ text.
-        IsBoundText reading.no_backslash_escape ts (given_by_borrowed params.entry) text.items)) }
-    ensures refused { OnTokensIn reading query.now (λ ts. IfErr result
-        (IsCauseOrMemory (first_cause ts (given_by_borrowed params.entry)))) }
-    ensures bound_again { IfOk result (λ text.
-        IsSameBoundAgain reading.no_backslash_escape text.items) }
-    ensures by_position { OnTokensIn reading query.now (λ ts. IfOk result (λ text.
-        IsSameByPosition reading.no_backslash_escape ts (given_by_borrowed params.entry)
-        text.items)) }
-    ensures mixed { OnTokensIn reading query.now (λ ts.
-        HasName ts × HasMark ts → IsErrOf result BindError.Mixed) }
-{
-    let form = PlainForm {
-        no_backslash_escape: reading.no_backslash_escape,
-    };
-    bind_borrowed_as(alloc, query, params, reading, &form)
-}
-
-/// The body of [`bind_borrowed_in`], with the literals of the values in any form. It is refused for
-/// the same causes. For the crate above.
+/// The text of a query in any reading, with the literals of the values in any form. It is refused
+/// for the causes of `bind_text_in`, in their order. For the crates above.
 pub fn bind_borrowed_as<F: LiteralForm>(
     alloc: Global,
     query: &[u8],
@@ -218,8 +119,8 @@ fn bind_many_names<F: LiteralForm>(
     bind_surveyed_as(alloc, &surveyed, params, form)
 }
 
-/// The text of a surveyed query: the body of [`bind_text_in`] and of [`ParsedQuery::bind`]. It is
-/// refused for the same causes. For the crates above.
+/// The text of a surveyed query: the body of [`ParsedQuery::bind`]. It is refused for the same
+/// causes. For the crates above.
 pub fn bind_surveyed(
     alloc: Global,
     surveyed: &SurveyedQuery<'_>,

@@ -1,9 +1,8 @@
 //! Binding: writes the literals of values in place of a query's names and marks.
 //!
-//! [`bind_text_in`] binds in a mode of the server. [`bind_text`] binds in the mode in which a
-//! backslash escapes. A [`ParsedQuery`] is parsed once and bound many times. `specs/Isolation.antt`
-//! states the promises about the text: each value is in one literal, and nothing else of the query
-//! changes.
+//! `bind` and `bind_text` in `mysql_bind_call` stand on [`bind_borrowed_as`]. A [`ParsedQuery`] is
+//! parsed once and bound many times. `specs/Isolation.antt` states the promises about the text:
+//! each value is in one literal, and nothing else of the query changes.
 #![tactic(auto)]
 
 mod bind_error;
@@ -16,10 +15,9 @@ pub use bind_pairs_error::BindPairsError;
 pub use binding::{
     KEPT_PLACES, LiteralForm, LiteralValue, MeasuredText, NO_PLACE, PairValues, ParsedQuery,
     PlaceSpan, PlaceValues, PlainForm, SpannedQuery, Survey, SurveyedQuery, TextInRoom, WideQuery,
-    all_places, append_piece, append_surveyed, bind_borrowed_as, bind_borrowed_in, bind_pairs,
-    bind_pairs_in, bind_pairs_into, bind_pairs_into_in, bind_spans_into, bind_surveyed,
-    bind_surveyed_as, bind_surveyed_into, bind_text, bind_text_in, bind_values, bind_values_into,
-    bind_values_into_in, bind_wide, bind_wide_in, bind_wide_pairs, bind_wide_pairs_into,
-    bind_wide_values, bind_wide_values_into, fill_measured, literal_len, measured_text,
-    measured_values, place_after, place_spans, push_literal, put_literal, query_names,
+    all_places, append_piece, append_surveyed, bind_borrowed_as, bind_pairs_into,
+    bind_pairs_into_in, bind_spans_into, bind_surveyed, bind_surveyed_as, bind_surveyed_into,
+    bind_values_into, bind_values_into_in, bind_wide_pairs_into, bind_wide_values_into,
+    fill_measured, literal_len, measured_text, measured_values, place_after, place_spans,
+    push_literal, put_literal, query_names,
 };

@@ -1,7 +1,8 @@
 //! Parameters and refusals as plain data, and what they stand for; the calls that bind.
 use mysql_params::params::{MissingNamedParameterError, Params, ParamsConfusionError, ParamsError};
 use mysql_params::{
-    BindError, ParsedQuery, WideQuery, bind_text, bind_text_in, bind_wide, bind_wide_in,
+    BindError, BindRefusal, ParsedQuery, Portability, Purpose, Scope, WideQuery, bind, bind_text,
+    bind_text_in,
 };
 use mysql_values::bytes::Bytes;
 use mysql_values::value::Value;
@@ -139,6 +140,17 @@ impl Refused<'_> {
     }
 }
 
+/// For one server in a mode, by wide names.
+pub(crate) fn wide_in(no_backslash_escape: bool) -> Purpose {
+    Purpose {
+        scope: Scope::OneMode {
+            no_backslash_escape,
+        },
+        portability: Portability::Any,
+        wide_names: true,
+    }
+}
+
 /// A call that binds.
 #[derive(Clone, Copy)]
 pub(crate) enum Spelling {
@@ -148,10 +160,8 @@ pub(crate) enum Spelling {
     BindTextIn(bool),
     /// `bind` of the query that `ParsedQuery::parse_in` parsed with this flag.
     Parsed(bool),
-    /// `bind_wide`.
-    BindWide,
-    /// `bind_wide_in` with this flag.
-    BindWideIn(bool),
+    /// `bind` for one server in this mode, by wide names.
+    BindWide(bool),
     /// `bind` of the query that `WideQuery::parse_in` parsed with this flag.
     WideParsed(bool),
 }
@@ -180,9 +190,8 @@ pub(crate) const EITHER_MODE: &[Spelling] = &[
 
 /// Every call that binds by wide names.
 pub(crate) const WIDE: &[Spelling] = &[
-    Spelling::BindWide,
-    Spelling::BindWideIn(false),
-    Spelling::BindWideIn(true),
+    Spelling::BindWide(false),
+    Spelling::BindWide(true),
     Spelling::WideParsed(false),
     Spelling::WideParsed(true),
 ];
@@ -196,9 +205,8 @@ impl Spelling {
             Spelling::BindTextIn(true) => "bind_text_in(true)",
             Spelling::Parsed(false) => "parse_in(false)",
             Spelling::Parsed(true) => "parse_in(true)",
-            Spelling::BindWide => "bind_wide",
-            Spelling::BindWideIn(false) => "bind_wide_in(false)",
-            Spelling::BindWideIn(true) => "bind_wide_in(true)",
+            Spelling::BindWide(false) => "bind(false)",
+            Spelling::BindWide(true) => "bind(true)",
             Spelling::WideParsed(false) => "WideQuery(false)",
             Spelling::WideParsed(true) => "WideQuery(true)",
         }
@@ -210,19 +218,18 @@ impl Spelling {
         alloc: Global,
         query: &[u8],
         params: Params,
-    ) -> Result<Vec<u8>, BindError> {
+    ) -> Result<Vec<u8>, BindRefusal> {
         match self {
-            Spelling::BindText => bind_text(alloc, query, params),
-            Spelling::BindTextIn(mode) => bind_text_in(alloc, query, params, mode),
+            Spelling::BindText => Ok(bind_text(alloc, query, params)?),
+            Spelling::BindTextIn(mode) => Ok(bind_text_in(alloc, query, params, mode)?),
             Spelling::Parsed(mode) => match ParsedQuery::parse_in(alloc, query, mode) {
-                Ok(parsed) => parsed.bind(alloc, params),
-                Err(error) => Err(BindError::Memory(error)),
+                Ok(parsed) => Ok(parsed.bind(alloc, params)?),
+                Err(error) => Err(BindRefusal::Memory(error)),
             },
-            Spelling::BindWide => bind_wide(alloc, query, params),
-            Spelling::BindWideIn(mode) => bind_wide_in(alloc, query, params, mode),
+            Spelling::BindWide(mode) => bind(alloc, query, &params, wide_in(mode)),
             Spelling::WideParsed(mode) => match WideQuery::parse_in(alloc, query, mode) {
-                Ok(parsed) => parsed.bind(alloc, params),
-                Err(error) => Err(BindError::Memory(error)),
+                Ok(parsed) => Ok(parsed.bind(alloc, params)?),
+                Err(error) => Err(BindRefusal::Memory(error)),
             },
         }
     }
@@ -289,7 +296,7 @@ pub(crate) fn is_refused_by(
     for spelling in spellings {
         let case = (query, spelling.name());
         let found = spelling.bound(alloc, query, given.params(rt, alloc)).err();
-        let wanted = Some(refused.error(rt, alloc));
+        let wanted = Some(BindRefusal::Values(refused.error(rt, alloc)));
         same_in(rt, &found, &wanted, &case);
     }
 }

@@ -3,16 +3,13 @@
 //! that follow, outside of strings, quoted names and comments.
 use crate::shared::{
     EITHER_MODE, Given, Plain, Refused, WIDE, answer_of, are_bound_by, is_refused_by, is_text,
-    same_in,
+    same_in, wide_in,
 };
+use mysql_params::params::NamedPairs;
 use mysql_params::{
-    BindError, BindPairsError, BothModesError, BothModesPairsError, Construct, Reading,
-    SteadyPairsError, SteadyTextError, TextInRoom, Unportable, WideQuery, bind_wide_anywhere,
-    bind_wide_in_any_mode, bind_wide_in_both_modes, bind_wide_pairs, bind_wide_pairs_anywhere,
-    bind_wide_pairs_in_any_mode, bind_wide_pairs_in_both_modes, bind_wide_pairs_into,
-    bind_wide_values, bind_wide_values_anywhere, bind_wide_values_in_any_mode,
-    bind_wide_values_in_both_modes, bind_wide_values_into, first_unportable_in,
-    first_unportable_in_client_in,
+    BindError, BindRefusal, ByPosition, Construct, Portability, Purpose, QueryRefusal, Reading,
+    Scope, TextInRoom, Unportable, WideQuery, bind, bind_wide_pairs_into, bind_wide_values_into,
+    first_unportable_in, first_unportable_in_client_in,
 };
 use mysql_values::value::ValueRef;
 use std::alloc::Global;
@@ -148,7 +145,10 @@ fn borrowed_pairs(rt: HostRuntime) {
     let wanted = b"3, 'it''s', ':Id'";
     is_text(
         &rt,
-        answer_of(&rt, bind_wide_pairs(rt.alloc(), query, PAIRS, true)),
+        answer_of(
+            &rt,
+            bind(rt.alloc(), query, &NamedPairs(PAIRS), wide_in(true)),
+        ),
         wanted,
     );
     let parsed = answer_of(&rt, WideQuery::parse_in(rt.alloc(), query, true));
@@ -173,10 +173,10 @@ fn borrowed_pairs(rt: HostRuntime) {
         (b"A".as_slice(), ValueRef::NULL),
         (b"A".as_slice(), ValueRef::NULL),
     ];
-    let refused = bind_wide_pairs(rt.alloc(), query, twice, true);
+    let refused = bind(rt.alloc(), query, &NamedPairs(twice), wide_in(true));
     same_in(
         &rt,
-        refused.err() == Some(BindPairsError::Redefined { index: 1 }),
+        refused.err() == Some(BindRefusal::Redefined { index: 1 }),
         true,
         &"a name twice",
     );
@@ -185,7 +185,7 @@ fn borrowed_pairs(rt: HostRuntime) {
 #[test]
 fn borrowed_values(rt: HostRuntime) {
     let values = &[ValueRef::Int(3)];
-    let text = bind_wide_values(rt.alloc(), b"?, ':Id'", values, false);
+    let text = bind(rt.alloc(), b"?, ':Id'", &ByPosition(values), wide_in(false));
     is_text(&rt, answer_of(&rt, text), b"3, ':Id'");
     let parsed = answer_of(&rt, WideQuery::parse(rt.alloc(), b"?, ':Id'"));
     is_text(
@@ -206,12 +206,8 @@ fn borrowed_values(rt: HostRuntime) {
     );
     same_in(&rt, room, [b'-', b'3', 7, 7], &"a room");
     // Values by position are refused beside a wide name.
-    same_in(
-        &rt,
-        bind_wide_values(rt.alloc(), b":Id", values, false).is_ok(),
-        false,
-        &"a name",
-    );
+    let refused = bind(rt.alloc(), b":Id", &ByPosition(values), wide_in(false));
+    same_in(&rt, refused.is_ok(), false, &"a name");
 }
 
 #[test]
@@ -292,6 +288,27 @@ fn portability_by_wide_names(rt: HostRuntime) {
     }
 }
 
+/// For any connection to any server, by wide names.
+const ANYWHERE: Purpose = Purpose {
+    scope: Scope::AnyConnection,
+    portability: Portability::Servers,
+    wide_names: true,
+};
+
+/// For any connection to one server, by wide names.
+const IN_ANY_MODE: Purpose = Purpose {
+    scope: Scope::AnyConnection,
+    portability: Portability::Any,
+    wide_names: true,
+};
+
+/// For either mode of any server, by wide names.
+const IN_BOTH_MODES: Purpose = Purpose {
+    scope: Scope::EitherMode,
+    portability: Portability::Servers,
+    wide_names: true,
+};
+
 const STEADY: &[(&[u8], &[u8])] = &[
     (b"SELECT :userId", b"SELECT 7"),
     (b"a = :ID, ':ID'", b"a = _utf8mb4'x', ':ID'"),
@@ -300,48 +317,50 @@ const STEADY: &[(&[u8], &[u8])] = &[
 
 #[test]
 fn steady_texts_by_wide_names(rt: HostRuntime) {
+    let params = USER.params(&rt, rt.alloc());
     for (query, wanted) in STEADY {
-        let params = USER.params(&rt, rt.alloc());
         is_text(
             &rt,
-            answer_of(&rt, bind_wide_anywhere(rt.alloc(), *query, params)),
+            answer_of(&rt, bind(rt.alloc(), *query, &params, ANYWHERE)),
             *wanted,
         );
-        let params = USER.params(&rt, rt.alloc());
         is_text(
             &rt,
-            answer_of(&rt, bind_wide_in_any_mode(rt.alloc(), *query, params)),
+            answer_of(&rt, bind(rt.alloc(), *query, &params, IN_ANY_MODE)),
             *wanted,
         );
     }
-    let values = [ValueRef::Bytes(b"it's")];
-    let text = bind_wide_values_anywhere(rt.alloc(), b"? ':A'", &values);
+    let values = ByPosition(&[ValueRef::Bytes(b"it's")]);
+    let text = bind(rt.alloc(), b"? ':A'", &values, ANYWHERE);
     is_text(&rt, answer_of(&rt, text), b"_utf8mb4'it''s' ':A'");
-    let text = bind_wide_values_in_any_mode(rt.alloc(), b"? [a]", &values);
+    let text = bind(rt.alloc(), b"? [a]", &values, IN_ANY_MODE);
     is_text(&rt, answer_of(&rt, text), b"_utf8mb4'it''s' [a]");
 }
 
 #[test]
 fn steady_texts_refused(rt: HostRuntime) {
-    let rows: &[(&[u8], SteadyTextError)] = &[
-        (b":ID '\\'", SteadyTextError::Unsteady { at: 5 }),
+    let rows: &[(&[u8], BindRefusal)] = &[
+        (
+            b":ID '\\'",
+            BindRefusal::Query(QueryRefusal::Unsteady { at: 5 }),
+        ),
         (
             b"/*+ :ID */",
-            SteadyTextError::Unportable(Unportable {
+            BindRefusal::Query(QueryRefusal::Unportable(Unportable {
                 construct: Construct::Hint,
                 at: 0,
-            }),
+            })),
         ),
         (
             b"lbl:LOOP",
-            SteadyTextError::Bind(BindError::NotAlone { place: 0, at: 3 }),
+            BindRefusal::Values(BindError::NotAlone { place: 0, at: 3 }),
         ),
-        (b":ID ?", SteadyTextError::Bind(BindError::Mixed)),
+        (b":ID ?", BindRefusal::Values(BindError::Mixed)),
     ];
     let given = Given::Named(&[(b"ID", Plain::Null), (b"LOOP", Plain::Null)]);
+    let params = given.params(&rt, rt.alloc());
     for (query, wanted) in rows {
-        let params = given.params(&rt, rt.alloc());
-        let refused = bind_wide_anywhere(rt.alloc(), *query, params).err();
+        let refused = bind(rt.alloc(), *query, &params, ANYWHERE).err();
         same_in(&rt, refused.as_ref() == Some(wanted), true, query);
     }
 }
@@ -351,30 +370,33 @@ fn texts_for_both_modes_by_wide_names(rt: HostRuntime) {
     let query = b"SELECT `b\xc3\xbc`, :ID, ':ID' FROM t WHERE i = :userId";
     let wanted = b"SELECT `b\xc3\xbc`, _utf8mb4'x', ':ID' FROM t WHERE i = 7";
     let params = USER.params(&rt, rt.alloc());
-    let text = bind_wide_in_both_modes(rt.alloc(), query, params);
+    let text = bind(rt.alloc(), query, &params, IN_BOTH_MODES);
     is_text(&rt, answer_of(&rt, text), wanted);
-    let values = [ValueRef::Bytes(b"it's")];
-    let text = bind_wide_values_in_both_modes(rt.alloc(), b"? '\xc3\xbc:A'", &values);
+    let values = ByPosition(&[ValueRef::Bytes(b"it's")]);
+    let text = bind(rt.alloc(), b"? '\xc3\xbc:A'", &values, IN_BOTH_MODES);
     is_text(&rt, answer_of(&rt, text), b"_utf8mb4'it''s' '\xc3\xbc:A'");
-    let rows: &[(&[u8], BothModesError)] = &[
-        (b":ID '\\'", BothModesError::Backslash { at: 5 }),
+    let rows: &[(&[u8], BindRefusal)] = &[
+        (
+            b":ID '\\'",
+            BindRefusal::Query(QueryRefusal::Backslash { at: 5 }),
+        ),
         (
             b"/*+ :ID */",
-            BothModesError::Unportable(Unportable {
+            BindRefusal::Query(QueryRefusal::Unportable(Unportable {
                 construct: Construct::Hint,
                 at: 0,
-            }),
+            })),
         ),
         (
             b"lbl:LOOP",
-            BothModesError::Bind(BindError::NotAlone { place: 0, at: 3 }),
+            BindRefusal::Values(BindError::NotAlone { place: 0, at: 3 }),
         ),
-        (b":ID ?", BothModesError::Bind(BindError::Mixed)),
+        (b":ID ?", BindRefusal::Values(BindError::Mixed)),
     ];
     let given = Given::Named(&[(b"ID", Plain::Null), (b"LOOP", Plain::Null)]);
+    let params = given.params(&rt, rt.alloc());
     for (query, wanted) in rows {
-        let params = given.params(&rt, rt.alloc());
-        let refused = bind_wide_in_both_modes(rt.alloc(), *query, params).err();
+        let refused = bind(rt.alloc(), *query, &params, IN_BOTH_MODES).err();
         same_in(&rt, refused.as_ref() == Some(wanted), true, query);
     }
 }
@@ -383,17 +405,19 @@ fn texts_for_both_modes_by_wide_names(rt: HostRuntime) {
 fn steady_texts_of_borrowed_pairs(rt: HostRuntime) {
     let query = b":Id, :x_Y, ':Id'";
     let wanted = b"3, _utf8mb4'it''s', ':Id'";
-    let text = bind_wide_pairs_anywhere(rt.alloc(), query, PAIRS);
+    let pairs = NamedPairs(PAIRS);
+    let text = bind(rt.alloc(), query, &pairs, ANYWHERE);
     is_text(&rt, answer_of(&rt, text), wanted);
-    let text = bind_wide_pairs_in_any_mode(rt.alloc(), query, PAIRS);
+    let text = bind(rt.alloc(), query, &pairs, IN_ANY_MODE);
     is_text(&rt, answer_of(&rt, text), wanted);
-    let text = bind_wide_pairs_in_both_modes(rt.alloc(), query, PAIRS);
+    let text = bind(rt.alloc(), query, &pairs, IN_BOTH_MODES);
     is_text(&rt, answer_of(&rt, text), wanted);
     let twice = [(b"A".as_slice(), ValueRef::NULL), (b"A", ValueRef::NULL)];
-    let refused = bind_wide_pairs_anywhere(rt.alloc(), b":A", &twice).err();
-    let redefined = SteadyPairsError::Redefined { index: 1 };
+    let twice = NamedPairs(&twice);
+    let refused = bind(rt.alloc(), b":A", &twice, ANYWHERE).err();
+    let redefined = BindRefusal::Redefined { index: 1 };
     same_in(&rt, refused == Some(redefined), true, &"for any server");
-    let refused = bind_wide_pairs_in_both_modes(rt.alloc(), b":A", &twice).err();
-    let redefined = BothModesPairsError::Redefined { index: 1 };
+    let refused = bind(rt.alloc(), b":A", &twice, IN_BOTH_MODES).err();
+    let redefined = BindRefusal::Redefined { index: 1 };
     same_in(&rt, refused == Some(redefined), true, &"for both modes");
 }

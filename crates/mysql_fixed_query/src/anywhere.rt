@@ -14,8 +14,8 @@ use mysql_steady_text::SteadyForm;
 use std::alloc::{AllocError, Global};
 
 /// The query with the steady literals of the values in the places of its names, as
-/// [`bind_text_anywhere`](mysql_steady_text::bind_text_anywhere) gives it: text that is read the
-/// same on any server, in every `sql_mode` and over every character set of a connection.
+/// `bind_text_anywhere` gives it: text that is read the same on any server, in every `sql_mode` and
+/// over every character set of a connection.
 ///
 /// The caller proves the same as for [`bind_named`](crate::bind_named), and that the query is
 /// portable and ASCII without a backslash. For a constant query the prover computes this by itself.

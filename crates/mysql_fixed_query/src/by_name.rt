@@ -13,8 +13,8 @@ use mysql_params_core::params::ToPairs;
 use std::alloc::{AllocError, Global};
 
 /// The query with the literals of the values in the places of its names, in a mode of the server,
-/// as [`bind_text_in`](mysql_binding::bind_text_in) gives it. The flag is the mode: with `true` a
-/// backslash is a byte like any other.
+/// as `bind_text_in` gives it. The flag is the mode: with `true` a backslash is a byte like any
+/// other.
 ///
 /// The caller proves that nothing refuses it. The query has a name and no mark, and each of its
 /// places stands alone. Its names are exactly those of the pairs, which differ. Each thing has a

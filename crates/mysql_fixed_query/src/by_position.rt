@@ -13,8 +13,8 @@ use mysql_params_core::params::ToParams;
 use std::alloc::{AllocError, Global};
 
 /// The query with the literals of the values in the places of its marks, in order, in a mode of the
-/// server, as [`bind_text_in`](mysql_binding::bind_text_in) gives it. The flag is the mode: with
-/// `true` a backslash is a byte like any other.
+/// server, as `bind_text_in` gives it. The flag is the mode: with `true` a backslash is a byte like
+/// any other.
 ///
 /// The caller proves that nothing refuses it. The things make values by position, or nothing. The
 /// query has no name, and as many marks as there are values. Each of its places stands alone, and

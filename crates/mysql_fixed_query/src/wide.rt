@@ -16,8 +16,7 @@ use mysql_params_core::params::ToPairs;
 use mysql_steady_text::SteadyForm;
 use std::alloc::{AllocError, Global};
 
-/// [`bind_named_in`](crate::bind_named_in) by wide names, as
-/// [`bind_wide_in`](mysql_binding::bind_wide_in) reads them: `:userId` and `:Id` are names too. The
+/// [`bind_named_in`](crate::bind_named_in) by wide names: `:userId` and `:Id` are names too. The
 /// caller proves the same of these names.
 pub fn bind_wide_named_in<P: ToPairs>(
     alloc: Global,
@@ -62,9 +61,8 @@ pub fn bind_wide_named<P: ToPairs>(
     bind_wide_named_in(alloc, query, pairs, false)
 }
 
-/// [`bind_named_anywhere`](crate::bind_named_anywhere) by wide names, as
-/// [`bind_wide_anywhere`](mysql_steady_text::bind_wide_anywhere) reads them. The caller proves the
-/// same of these names, and that the query with its names in lower case is portable. For example,
+/// [`bind_named_anywhere`](crate::bind_named_anywhere) by wide names. The caller proves the same of
+/// these names, and that the query with its names in lower case is portable. For example,
 /// `bind_wide_named_anywhere(alloc, b"SELECT a FROM t WHERE b = :Id", &(("Id", "x"),))`.
 pub fn bind_wide_named_anywhere<P: ToPairs>(
     alloc: Global,

@@ -36,9 +36,8 @@ const GRAMMAR: AnywhereCall = AnywhereCall::Steady { wide_names: false };
 
 const WIDE: AnywhereCall = AnywhereCall::Steady { wide_names: true };
 
-/// Binds a form's fragments to a query, as
-/// [`bind_fragments_anywhere`](mysql_fragments::bind_fragments_anywhere) does, and writes the text
-/// to the front of the room. The text is read the same on any server, in every `sql_mode` and over
+/// Binds a form's fragments to a query, as `bind_fragments_anywhere` does, and writes the text to
+/// the front of the room. The text is read the same on any server, in every `sql_mode` and over
 /// every character set of a connection.
 ///
 /// Form, room, `Done` and `Room` are as for [`bind_fragments_into`](crate::bind_fragments_into). A

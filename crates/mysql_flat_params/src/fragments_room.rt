@@ -27,11 +27,10 @@ use mysql_named_params::places::Reading;
 use mysql_params_core::params::ParamsConfusionError;
 use std::alloc::{AllocError, Global};
 
-/// Binds a form's fragments to a query in a mode, as
-/// [`bind_fragments_in`](mysql_fragments::bind_fragments_in) does, and writes the text to the front
-/// of the room. The form is that of [`form_fragments`](crate::form_fragments). Names and values
-/// aren't copied, nor are those of a list and of rows of one length. Any other fragment is copied,
-/// such as a list with an exact number in it.
+/// Binds a form's fragments to a query in a mode, as `bind_fragments_in` does, and writes the text
+/// to the front of the room. The form is that of [`form_fragments`](crate::form_fragments). Names
+/// and values aren't copied, nor are those of a list and of rows of one length. Any other fragment
+/// is copied, such as a list with an exact number in it.
 ///
 /// `Done` has the length of the text; the rest of the room is unchanged. `Room` has the length that
 /// the room would need. A form is refused before the query. Then the first of the causes of

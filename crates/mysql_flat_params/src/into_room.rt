@@ -35,9 +35,8 @@ use mysql_named_params::places::Reading;
 use mysql_params_core::params::{BorrowedParams, NamedPairs, ParamsConfusionError, ParamsError};
 use std::alloc::Global;
 
-/// Binds a form's parameters to a query in a mode, as [`bind_text_in`](mysql_binding::bind_text_in)
-/// does, and writes the text to the front of the room. The form is that of
-/// [`params_of_form`](crate::params_of_form).
+/// Binds a form's parameters to a query in a mode, as `bind_text_in` does, and writes the text to
+/// the front of the room. The form is that of [`params_of_form`](crate::params_of_form).
 ///
 /// `Done` has the length of the text; the rest of the room is unchanged. `Room` has the length that
 /// the room would need. A form is refused before the query. Then the first of the causes of

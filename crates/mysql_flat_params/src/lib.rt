@@ -18,8 +18,7 @@
 //! they refuse.
 //!
 //! A function whose name ends in `_read` does the same as the one without `_read`, for a query in
-//! any [`Reading`]. So it can also read the wide names of
-//! [`bind_wide_in`](mysql_binding::bind_wide_in), which may have capitals. It has the same
+//! any [`Reading`]. So it can also read wide names, which may have capitals. It has the same
 //! outcomes.
 #![tactic(auto)]
 

@@ -58,8 +58,7 @@ const WIDE_IN_BOTH_MODES: SteadyCall = SteadyCall {
     wide_names: true,
 };
 
-/// Binds a form's parameters to a query, as
-/// [`bind_text_anywhere`](mysql_steady_text::bind_text_anywhere) does, and writes the text to the
+/// Binds a form's parameters to a query, as `bind_text_anywhere` does, and writes the text to the
 /// front of the room. The text is read the same on any server, in every `sql_mode` and over every
 /// character set of a connection.
 ///
@@ -92,11 +91,10 @@ pub fn bind_anywhere_into(alloc: Global, query: &[u8], form: &[u8], room: &mut [
     bind_steady_into(alloc, query, form, ANYWHERE, room)
 }
 
-/// Binds a form's parameters to a query, as
-/// [`bind_text_in_both_modes`](mysql_steady_text::bind_text_in_both_modes) does, and writes the
-/// text to the front of the room. The text is read the same on any server, in every `sql_mode`. The
-/// query may hold bytes from 128 on. The connection's character set then has to be that of these
-/// bytes: utf8mb4 for UTF-8.
+/// Binds a form's parameters to a query, as `bind_text_in_both_modes` does, and writes the text to
+/// the front of the room. The text is read the same on any server, in every `sql_mode`. The query
+/// may hold bytes from 128 on. The connection's character set then has to be that of these bytes:
+/// utf8mb4 for UTF-8.
 ///
 /// Everything else is as for [`bind_anywhere_into`], except that `Backslash`, for a backslash in a
 /// string of the query, comes in place of `Unsteady`.
@@ -124,10 +122,7 @@ pub fn bind_in_both_modes_into(alloc: Global, query: &[u8], form: &[u8], room: &
     bind_steady_into(alloc, query, form, IN_BOTH_MODES, room)
 }
 
-/// [`bind_anywhere_into`] by wide names: it binds as
-/// [`bind_wide_anywhere`](mysql_steady_text::bind_wide_anywhere) does.
-///
-/// Everything else is as for [`bind_anywhere_into`].
+/// [`bind_anywhere_into`] by wide names. Everything else is the same.
 pub fn bind_wide_anywhere_into(alloc: Global, query: &[u8], form: &[u8], room: &mut [u8]) -> Outcome
     ensures outcome { IsWideAnywhereOutcome query.now form.now result }
     ensures written { IfDone result (λ len.
@@ -153,11 +148,9 @@ pub fn bind_wide_anywhere_into(alloc: Global, query: &[u8], form: &[u8], room: &
     bind_steady_into(alloc, query, form, WIDE_ANYWHERE, room)
 }
 
-/// [`bind_in_both_modes_into`] by wide names: it binds as
-/// [`bind_wide_in_both_modes`](mysql_steady_text::bind_wide_in_both_modes) does.
-///
-/// Everything else is as for [`bind_wide_anywhere_into`], except that `Backslash`, for a backslash
-/// in a string of the query, comes in place of `Unsteady`.
+/// [`bind_in_both_modes_into`] by wide names. Everything else is as for
+/// [`bind_wide_anywhere_into`], except that `Backslash`, for a backslash in a string of the query,
+/// comes in place of `Unsteady`.
 pub fn bind_wide_in_both_modes_into(
     alloc: Global,
     query: &[u8],

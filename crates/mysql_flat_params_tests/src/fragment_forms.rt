@@ -1,8 +1,8 @@
 //! What forms of fragments say: the texts of their fragments in queries. The forms are written by
 //! hand, by the heading of `FlatFragments.antt`.
 use crate::shared::{answer_of, same_in};
+use mysql_bind_call::bind_fragments;
 use mysql_flat_params::form_fragments;
-use mysql_fragments::bind_fragments;
 
 /// A query, a form, and the text.
 const TEXTS: &[(&[u8], &[u8], &[u8])] = &[

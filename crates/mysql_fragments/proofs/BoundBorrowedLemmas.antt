@@ -32,19 +32,6 @@ use Rattle.mysql_fragments.proofs.FilledLemmas.{bound_on, filled_on}
 use Rattle.mysql_fragments.proofs.SaidLemmas.{said_all_values, said_texts}
 
 module _ (ts : List Token) (said : List Fragment) where
-  pub first_is_mixed : 0 < length (names ts) → HasMark ts → Some (Some mixed_query) ≡ option_map Some (first_cause true ts (positional said))
-  first_is_mixed some more =
-      sym (ap (λ x. option_map Some (option_or x (cause_of_places true ts (fragments_for (positional said) (names ts))))) (mixed_some ts (some, more)))
-
-  pub first_is_confused : 0 < length (names ts) → (HasName ts × HasMark ts → ⊥) →
-      Some (Some (refused_fragments (confused PositionalParamsForNamedQuery))) ≡ option_map Some (first_cause true ts (positional said))
-  first_is_confused some apart =
-      sym (ap (option_map Some) (first_refused true ts (positional said) (confused PositionalParamsForNamedQuery) (mixed_none ts apart) (named (names ts) some)))
-    where
-      named : (ns : List (List ℕ)) → 0 < length ns → fragments_for (positional said) ns ≡ Err (confused PositionalParamsForNamedQuery)
-      named [] some = absurd (omega (arith, some))
-      named (n ∷ ns) some = refl
-
   pub first_is_later : length (names ts) ≡ 0 → option_map (λ x. Some x) (later_cause true ts said) ≡ option_map Some (first_cause true ts (positional said))
   first_is_later none =
       sym (ap (option_map Some) (first_by true ts (positional said) said (later_cause true ts said) (mixed_none ts (λ both. omega (arith, both.0, none))) (nameless (names ts) none) refl))

@@ -1,11 +1,12 @@
 -- The text that is written at once, with literals in place of the values of fragments, is the one that
 -- binding gives for the expanded query and these values.
-use Rattle.std.specs.Prelude.{Bool, codes, Option, option_map, IfSome, ⊤}
+use Rattle.std.specs.Prelude.{Bool, codes, Ok, Option, option_map, IfSome, ⊤}
 use Rattle.std.specs.List.{flat_map}
 use Rattle.std.specs.Global.{Vec}
 use Rattle.std.specs.Str.{byte}
 use Rattle.std.proofs.Common.{◌≡◌, ◌+◌, ◌++◌, ◌<◌, ◌≤◌, ℕ, All, true, List, [], ◌∷◌, length, map, take, take_all, get_or, Some, None, arith, refl, sym, ap, ◌∙◌, subst, append_assoc, append-nil, length-append}
 use Rattle.std.proofs.lemmas.List.{length-map, map-append, take_more}
+use Rattle.std.proofs.lemmas.List.Elements.{All-nil, All-cons}
 use Rattle.mysql_values.specs.declared.value.Value.{Value}
 use Rattle.mysql_values.specs.Value.{FieldsInRange}
 use Rattle.mysql_values.specs.Literal.{literal_of}
@@ -72,7 +73,7 @@ list_places : (mode : Bool) (n : ℕ) (text : List ℕ) (list : List Token) → 
 list_places mode n text list f = omega (arith, place_count-sum list, ap length f.list_names, f.list_marks)
 
 -- the first text has the shape of a fragment, and is the second with these texts of values in place of its marks
-data Fills (mode : Bool) (write : Value → List ℕ) : List ℕ → List Value → List ℕ → Type 0 where
+pub data Fills (mode : Bool) (write : Value → List ℕ) : List ℕ → List Value → List ℕ → Type 0 where
   fills_mark : (v : Value) → Fills mode write (codes "?") (v ∷ []) (write v)
   fills_plain : (text : List ℕ) → IsFragment mode 0 text → Fills mode write text [] text
   fills_list : (a : List ℕ) (vs : List Value) (x b : List ℕ) (us : List Value) (y : List ℕ) → Fills mode write a vs x →
@@ -188,7 +189,7 @@ module _ (mode : Bool) (write : Value → List ℕ) where
       let p = or_none (assignment_fault part index x) (assignments_fault_from (number_after part (length x.column.items)) (index + 1) xs) h in
       (assignment_fills part index x p.0, all_assignments_fill (number_after part (length x.column.items)) (index + 1) xs p.1)
 
-  fragment_fills : (fragment : Fragment) → fault_of fragment ≡ None →
+  pub fragment_fills : (fragment : Fragment) → fault_of fragment ≡ None →
       Fills mode write (fragment_text fragment) (fragment_values fragment) (filled_text write fragment)
   fragment_fills (one.Value value) h = fills_mark value
   fragment_fills (one.List items) h = go items.items h
@@ -294,7 +295,7 @@ known_all literal IsKnown f xs i done = subst (λ ys. AreKnownUnlessFloats liter
 
 -- ---- the text
 
-is_filled : (literal : Literals) (IsKnown : LiteralFacts) (mode : Bool) (ts : List Token) (given : GivenFragments) (expanded text : List ℕ) →
+pub is_filled : (literal : Literals) (IsKnown : LiteralFacts) (mode : Bool) (ts : List Token) (given : GivenFragments) (expanded text : List ℕ) →
     All IsWideName (names ts) → (x : IsExpanded true mode ts given expanded) →
     joined_text (pieces ts) (map (filled_text (written_literal literal)) x.fragments) ≡ Some text →
     AreKnownUnlessFloats literal IsKnown (all_values x.fragments) →
@@ -343,18 +344,39 @@ filled_on literal IsKnown reading query given fragments text p j known =
       },
     )
 
+-- ---- the fields of its values
+
+pub written_in_range : (literal : Literals) (IsKnown : LiteralFacts) → ((v : Value) (text : List ℕ) → IsKnown v text → FieldsInRange v) →
+    (values : List Value) (texts : List (List ℕ)) → AreWrittenAs literal IsKnown values texts → All FieldsInRange values
+written_in_range literal IsKnown range [] texts h = All-nil FieldsInRange
+written_in_range literal IsKnown range (v ∷ values) [] h = absurd h
+written_in_range literal IsKnown range (v ∷ values) (text ∷ texts) h =
+    All-cons FieldsInRange v values (range v text h.1) (written_in_range literal IsKnown range values texts h.2)
+
+-- each is in the range of its type
+pub filled_in_range : (literal : Literals) (IsKnown : LiteralFacts) → ((v : Value) (text : List ℕ) → IsKnown v text → FieldsInRange v) →
+    (mode : Bool) (ts : List Token) (given : GivenFragments) (text : List ℕ) → (f : IsFilledQuery literal IsKnown mode ts given text) →
+    All FieldsInRange (all_values f.expanded.fragments)
+filled_in_range literal IsKnown range mode ts given text f =
+    let x = f.expanded in
+    let none = expanded_nameless true mode ts given f.query x in
+    let found : Ok (all_values x.fragments) ≡ Ok f.filled.values = sym (ap (lookup (positional (all_values x.fragments))) none) ∙ f.filled.looked_up in
+    let same : f.filled.values ≡ all_values x.fragments = cc in
+    subst (All FieldsInRange) same (written_in_range literal IsKnown range f.filled.values f.filled.written_text.literals f.filled.written_text.written)
+
 -- with plain literals it is the text that is bound
+pub bound_of_filled : (mode : Bool) (ts : List Token) (given : GivenFragments) (text : List ℕ) →
+    IsFilledQuery (literal_of mode) (IsPlainLiteral mode) mode ts given text → IsBoundFragments mode ts given text
+bound_of_filled mode ts given text f =
+    let x = f.expanded in
+    record {
+      query = f.query;
+      expanded = x;
+      bound = is_bound_text (grammar_reading mode) f.query (with_literal_tokens ts x.lists) (positional (all_values x.fragments)) text x.isolated f.filled;
+      in_range = filled_in_range (literal_of mode) (IsPlainLiteral mode) (λ v text k. k.2) mode ts given text f;
+    }
+
 pub bound_on : (reading : Reading) (query : List ℕ) (given : GivenFragments) (text : List ℕ) →
     OnTokensIn reading query (λ ts. IsFilledQuery (literal_of reading.no_backslash_escape) (IsPlainLiteral reading.no_backslash_escape) reading.no_backslash_escape ts given text) →
     OnTokensIn reading query (λ ts. IsBoundFragments reading.no_backslash_escape ts given text)
-bound_on reading query given text o =
-    let f = o.2 in
-    let x = f.expanded in (
-      o.0,
-      o.1,
-      record {
-        query = f.query;
-        expanded = x;
-        bound = is_bound_text (grammar_reading reading.no_backslash_escape) f.query (with_literal_tokens o.0 x.lists) (positional (all_values x.fragments)) text x.isolated f.filled;
-      },
-    )
+bound_on reading query given text o = (o.0, o.1, bound_of_filled reading.no_backslash_escape o.0 given text o.2)

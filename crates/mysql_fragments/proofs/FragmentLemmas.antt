@@ -24,9 +24,9 @@ use Rattle.mysql_binding.proofs.SentTextLemmas.{AreSentExceptMarksBefore, statem
 use Rattle.std.proofs.lemmas.List.Folds.{list_all-append}
 use Rattle.mysql_binding.proofs.UpToSpliceLemmas.{joins_nothing, opens_nothing_after}
 use Rattle.mysql_fragments.specs.FragmentFaults.{escapes_end, is_keyword, is_keyword_from}
-use Rattle.mysql_fragments.specs.FragmentShape.{IsIdentifier, one_name, more_names, IsFragment, mark_fragment, literal_fragment, decimal_fragment, negative_decimal_fragment, double_fragment, identifier_fragment, keyword_fragment, assignment_fragment, list_fragment, row_fragment}
+use Rattle.mysql_fragments.specs.FragmentShape.{IsIdentifier, one_name, more_names, IsFragment, mark_fragment, literal_fragment, steady_fragment, decimal_fragment, negative_decimal_fragment, double_fragment, identifier_fragment, keyword_fragment, assignment_fragment, list_fragment, row_fragment}
 use Rattle.mysql_fragments.specs.FragmentText.{doubled, identifier_text}
-use Rattle.mysql_fragments.proofs.FragmentListLemmas.{IsFragmentList, decimal_list, decimal_tokens, double_list, literal_list, mark_list, negative_list, no_marks, placeless_alone}
+use Rattle.mysql_fragments.proofs.FragmentListLemmas.{IsFragmentList, decimal_list, decimal_tokens, double_list, literal_list, steady_list, mark_list, negative_list, no_marks, placeless_alone}
 use Rattle.mysql_binding.proofs.RenamedPlaceLemmas.{last-append}
 use Rattle.mysql_named_params.proofs.FoundPlaceLemmas.{names-no_place}
 
@@ -406,6 +406,7 @@ pub fragment_list_of : (mode : Bool) {n : ℕ} {text : List ℕ} → IsFragment 
     (list : List Token) × IsFragmentList mode n text list
 fragment_list_of mode mark_fragment = (Mark ∷ [], mark_list mode)
 fragment_list_of mode (literal_fragment literal h) = literal_list mode literal h
+fragment_list_of mode (steady_fragment literal h s) = steady_list mode literal h s
 fragment_list_of mode (decimal_fragment whole fraction w f) = (decimal_tokens whole fraction, decimal_list whole fraction w f mode)
 fragment_list_of mode (negative_decimal_fragment whole fraction w f) = (Plain dash ∷ decimal_tokens whole fraction, negative_list mode whole fraction w f)
 fragment_list_of mode (double_fragment text h) = double_list mode text h

@@ -21,6 +21,10 @@ use Rattle.mysql_binding.proofs.ByteTestLemmas.{behind_ends}
 use Rattle.mysql_binding.proofs.LiteralTokenLemmas.{AreSettledBefore, AreSettledBefore-append, plain_tokens, other, plain_text, plain_places, plain_before, plain_settled, AreDigits-alphanumeric, minus_plain, minus_portable, minus_single, digits_open_nothing, minus_opens_nothing, IsLiteral-cut, IsLiteral-opens_nothing}
 use Rattle.mysql_binding.proofs.UpToSpliceLemmas.{opens_nothing_after}
 use Rattle.mysql_float_literal.specs.DoubleShape.{IsDouble}
+use Rattle.mysql_portable.specs.SteadyBytes.{IsSteady}
+use Rattle.mysql_steady_text.specs.SteadyShape.{IsSteadyLiteral}
+use Rattle.mysql_steady_text.proofs.SteadyClientLemmas.{steady_literals_within}
+use Rattle.mysql_steady_text.proofs.SteadySpliceLemmas.{HasCut, IsSteadyLiteral-cut, cut_in, literal_opens_nothing}
 use Rattle.mysql_fragments.proofs.DoubleTokenLemmas.{IsDouble-plain, double_opens_nothing, double_within}
 use Rattle.mysql_sql_text.proofs.DigitLemmas.{digits_all}
 use Rattle.mysql_binding.proofs.RenamedPlaceLemmas.{if_alone}
@@ -94,6 +98,27 @@ literal_list mode literal h =
         list_within = literal_within mode literal c.0 (within mode h) (record { text = c.1.cut_text; each = c.1.cut_tokens [] });
         list_names = names-no_place c.0 c.1.cut_places;
         list_marks = no_marks c.0 c.1.cut_places;
+      },
+    )
+
+-- a steady literal
+pub steady_list : (mode : Bool) (literal : List ℕ) → IsSteadyLiteral literal → IsSteady literal →
+    (list : List Token) × IsFragmentList mode 0 literal list
+unfolding HasCut
+steady_list mode literal h s =
+    let own = IsSteadyLiteral-cut h in
+    let list : List Token = own.0 in
+    let c = cut_in mode literal list s own.1 in (
+      list,
+      record {
+        list_text = c.cut_text;
+        list_tokens = c.cut_tokens;
+        list_opens = λ before rest b. rw (text_then-text_of list rest, c.cut_text) (literal_opens_nothing h before rest b);
+        list_settled = λ rest h. c.cut_settled rest;
+        list_alone = placeless_alone list c.cut_places;
+        list_within = (steady_literals_within mode (literal ∷ []) (list ∷ []) (h, s, tt) (record { text = c.cut_text; each = c.cut_tokens [] }, tt)).0;
+        list_names = names-no_place list c.cut_places;
+        list_marks = no_marks list c.cut_places;
       },
     )
 

@@ -298,24 +298,34 @@ module _ (literal : Literals) (lack : LackFloats literal) where
       let more = literals_written values literals later in cc
 
   -- in the text of the expanded query and literals of its values
-  in_places : (mode : Bool) (ts : List Token) (given : GivenFragments) (query text : List ℕ) (x : IsExpanded true mode ts given query)
-      (values : List Value) (literals : List (List ℕ)) → lookup (positional (all_values x.fragments)) (names (with_literal_tokens ts x.lists)) ≡ Ok values →
-      map literal values ≡ map Some literals → joined_text (pieces (with_literal_tokens ts x.lists)) literals ≡ Some text →
-      (texts : List (List ℕ)) × (joined_text (pieces ts) texts ≡ Some text) × ReadAsThemselves literal (pieces ts) x.fragments texts
-  in_places mode ts given query text x values literals looked_up written is =
-      let us : List Token = with_literal_tokens ts x.lists in
-      let parts = expanded_parts true mode ts given query x in
-      let none : names us ≡ [] = expanded_nameless true mode ts given query x in
-      let found : Ok (all_values x.fragments) ≡ Ok values = sym (ap (lookup (positional (all_values x.fragments))) none) ∙ looked_up in
-      let values_are : values ≡ all_values x.fragments = cc in
-      let literals_are : literals ≡ map write (all_values x.fragments) = literals_written values literals written ∙ ap (map write) values_are in
-      let text_is : text ≡ bound ts (texts_of x.fragments) =
-      joined_text_is us literals text is
-      ∙ (ap (bound us) literals_are ∙ filled_bound mode write 0 ts x.fragments x.lists parts.2 x.tokens_of_fragments parts.0) in (
-        texts_of x.fragments,
-        joined_text-pieces_from [] ts (texts_of x.fragments) (count ts x.fragments parts.0) ∙ ap Some (sym text_is),
-        placed ts 0 [] [] x.fragments (expanded_alone true mode ts given query x) (all_read 0 x.fragments parts.2 parts.1) parts.0,
-      )
+  module _ (mode : Bool) (ts : List Token) (given : GivenFragments) (query text : List ℕ) (x : IsExpanded true mode ts given query)
+      (values : List Value) (literals : List (List ℕ)) (looked_up : lookup (positional (all_values x.fragments)) (names (with_literal_tokens ts x.lists)) ≡ Ok values)
+      (written : map literal values ≡ map Some literals) (is : joined_text (pieces (with_literal_tokens ts x.lists)) literals ≡ Some text) where
+    -- the values are those of the fragments
+    pub values_filled : values ≡ all_values x.fragments
+    values_filled =
+        let none : names (with_literal_tokens ts x.lists) ≡ [] = expanded_nameless true mode ts given query x in
+        let found : Ok (all_values x.fragments) ≡ Ok values = sym (ap (lookup (positional (all_values x.fragments))) none) ∙ looked_up in
+        cc
+
+    -- between the pieces of the query
+    pub text_filled : joined_text (pieces ts) (map (filled_text write) x.fragments) ≡ Some text
+    text_filled =
+        let us : List Token = with_literal_tokens ts x.lists in
+        let parts = expanded_parts true mode ts given query x in
+        let literals_are : literals ≡ map write (all_values x.fragments) = literals_written values literals written ∙ ap (map write) values_filled in
+        let text_is : text ≡ bound ts (texts_of x.fragments) =
+        joined_text_is us literals text is
+        ∙ (ap (bound us) literals_are ∙ filled_bound mode write 0 ts x.fragments x.lists parts.2 x.tokens_of_fragments parts.0) in
+        joined_text-pieces_from [] ts (texts_of x.fragments) (count ts x.fragments parts.0) ∙ ap Some (sym text_is)
+
+    pub in_places : (texts : List (List ℕ)) × (joined_text (pieces ts) texts ≡ Some text) × ReadAsThemselves literal (pieces ts) x.fragments texts
+    in_places =
+        let parts = expanded_parts true mode ts given query x in (
+          texts_of x.fragments,
+          text_filled,
+          placed ts 0 [] [] x.fragments (expanded_alone true mode ts given query x) (all_read 0 x.fragments parts.2 parts.1) parts.0,
+        )
 
 -- ---- in each form of literals
 

@@ -32,3 +32,4 @@ pub mod BracketClosesLemmas
 pub mod BracketWalkLemmas
 pub mod BracketLawLemmas
 mod OneFragmentsLemmas
+pub mod TextOfFragmentsLemmas

@@ -25,7 +25,6 @@ use Rattle.mysql_binding.specs.declared.binding.room.TextInRoom.{TextInRoom}
 use Rattle.mysql_binding.specs.declared.binding.room.TextInRoom.TheVariants.{Written}
 use Rattle.mysql_binding.specs.declared.binding.survey.Survey.{Survey}
 use Rattle.mysql_binding.proofs.BoundText.{bound}
-use Rattle.mysql_binding.proofs.BoundTextLemmas.{is_bound_text}
 use Rattle.mysql_binding.proofs.MeasuredTextLemmas.{bound_len}
 use Rattle.mysql_binding.proofs.PieceLemmas.{joined_text-pieces_from}
 use Rattle.mysql_binding.proofs.TextInRoomLemmas.{bound_length, each_in_room}
@@ -40,7 +39,7 @@ use Rattle.mysql_fragments.specs.GivenFragments.{GivenFragments}
 use Rattle.mysql_fragments.specs.declared.fragment.Fragment.{Fragment}
 use Rattle.mysql_fragments.specs.declared.fragment_ref.FragmentRef.{FragmentRef}
 use Rattle.mysql_fragments.proofs.ExpandedLemmas.{each_on}
-use Rattle.mysql_fragments.proofs.FilledLemmas.{filled_on}
+use Rattle.mysql_fragments.proofs.FilledLemmas.{bound_of_filled, filled_in_range, filled_on}
 use Rattle.mysql_fragments.proofs.SaidLemmas.{said_all_values, said_count, said_texts}
 
 -- the front of a room that is written over
@@ -114,23 +113,21 @@ module _ (literal : Literals) (reading : Reading) (query : List ℕ) (survey : S
 
 -- ---- plain literals
 
-is_bound : (mode : Bool) (ts : List Token) (given : GivenFragments) (text : List ℕ) →
-    IsFilledQuery (literal_of mode) (IsPlainLiteral mode) mode ts given text → IsBoundFragments mode ts given text
-is_bound mode ts given text f =
-    let x = f.expanded in
-    record {
-      query = f.query;
-      expanded = x;
-      bound = is_bound_text (grammar_reading mode) f.query (with_literal_tokens ts x.lists) (values.positional (all_values x.fragments)) text x.isolated f.filled;
-    }
-
 -- the length of a bound text, before it is made
 pub bound_fragments_length : (mode : Bool) (ts : List Token) (given : GivenFragments) (len : ℕ) →
     HasFilledLength (literal_of mode) mode ts given len → HasTextOf (IsBoundFragments mode ts given) len
 bound_fragments_length mode ts given len (text, f, long) =
     let x = f.expanded in
-    let b = bound_length (grammar_reading mode) f.query (with_literal_tokens ts x.lists) (values.positional (all_values x.fragments)) len x.isolated (text, f.filled, long) in
-    (b.0, record { query = f.query; expanded = x; bound = b.1 }, b.2)
+    let b = bound_length (grammar_reading mode) f.query (with_literal_tokens ts x.lists) (values.positional (all_values x.fragments)) len x.isolated (text, f.filled, long) in (
+      b.0,
+      record {
+        query = f.query;
+        expanded = x;
+        bound = b.1;
+        in_range = filled_in_range (literal_of mode) IsOfFields (λ v text k. k) mode ts given text f;
+      },
+      b.2,
+    )
 
 module _ (reading : Reading) (query : List ℕ) (given : GivenFragments) (old new : List ℕ) (told : TextInRoom) where
   abbrev mode : Bool
@@ -138,4 +135,4 @@ module _ (reading : Reading) (query : List ℕ) (given : GivenFragments) (old ne
 
   pub bound_fragments_in_room : OnTokensIn reading query (λ ts. IsTextInRoom (IsFilledQuery (literal_of mode) (IsPlainLiteral mode) mode ts given) (HasFilledLength (literal_of mode) mode ts given) old new told) →
       OnTokensIn reading query (λ ts. IsTextInRoom (IsBoundFragments mode ts given) (HasTextOf (IsBoundFragments mode ts given)) old new told)
-  bound_fragments_in_room o = (o.0, o.1, each_in_room _ _ _ old new told (λ x f. is_bound mode o.0 given x f) (λ len. bound_fragments_length mode o.0 given len) o.2)
+  bound_fragments_in_room o = (o.0, o.1, each_in_room _ _ _ old new told (λ x f. bound_of_filled mode o.0 given x f) (λ len. bound_fragments_length mode o.0 given len) o.2)

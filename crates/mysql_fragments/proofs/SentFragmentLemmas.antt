@@ -12,14 +12,18 @@ use Rattle.mysql_named_params.specs.Bytes.{asterisk, newline, slash, backquote, 
 use Rattle.mysql_named_params.specs.Tokens.{IsToken, Mark, Plain}
 use Rattle.mysql_named_params.proofs.TokenEnds.{plain_at}
 use Rattle.mysql_portable.specs.FoundInClient.{begins_statement, begins_line, begins_no_word, found_in_client, is_client_word}
-use Rattle.mysql_portable.proofs.OtherModeLemmas.{all_parts}
+use Rattle.mysql_portable.specs.SteadyBytes.{IsSteady}
+use Rattle.mysql_portable.specs.Steady.{is_steady}
+use Rattle.mysql_portable.proofs.OtherModeLemmas.{all_parts, tokens_before_other}
+use Rattle.mysql_portable.proofs.SteadyLemmas.{steady_tokens}
+use Rattle.mysql_steady_text.proofs.SteadySentLemmas.{steady_sent}
 use Rattle.mysql_binding.proofs.LiteralTokenLemmas.{other, AreDigits-alphanumeric}
 use Rattle.mysql_sql_text.specs.InLine.{is_in_line}
 use Rattle.mysql_binding.proofs.SentLiteralLemmas.{and_none, SentPart, SentText, both_parts, digits_text, front_and_part, literal_sent, minus_text, part_of, run_part}
 use Rattle.mysql_binding.proofs.SentTextLemmas.{is_sent_first, no_word_found}
 use Rattle.mysql_float_literal.specs.DoubleShape.{IsSign, no_sign, minus_sign, IsFraction, no_fraction, point_and_digits, IsDouble, double_shape}
 use Rattle.mysql_fragments.specs.FragmentFaults.{escapes_end, is_keyword}
-use Rattle.mysql_fragments.specs.FragmentShape.{IsIdentifier, one_name, more_names, IsFragment, mark_fragment, literal_fragment, decimal_fragment, negative_decimal_fragment, double_fragment, identifier_fragment, keyword_fragment, assignment_fragment, list_fragment, row_fragment}
+use Rattle.mysql_fragments.specs.FragmentShape.{IsIdentifier, one_name, more_names, IsFragment, mark_fragment, literal_fragment, steady_fragment, decimal_fragment, negative_decimal_fragment, double_fragment, identifier_fragment, keyword_fragment, assignment_fragment, list_fragment, row_fragment}
 use Rattle.mysql_fragments.specs.FragmentText.{doubled, identifier_text}
 use Rattle.mysql_fragments.specs.SentFragments.{begins_no_word_of_client}
 use Rattle.mysql_fragments.proofs.FragmentLemmas.{doubled_other, doubled_quote, identifier_tokens, is_word_byte, keyword_bytes, keyword_first, quoted_run, word_plain}
@@ -167,9 +171,22 @@ words_part mode (b ∷ bytes) h =
     let p = and_parts (is_word_byte b) (list_all is_word_byte bytes) h in
     both_parts mode (b ∷ []) bytes (byte_part mode b (word_plain mode b p.0) (λ rest. word_found b rest p.0) (word_statement b p.0) (word_line b p.0)) (words_part mode bytes p.1)
 
+-- a steady text has the same tokens in each mode
+steady_in_mode : (mode : Bool) (text : List ℕ) → IsSteady text → SentText true text → SentText mode text
+steady_in_mode mode text s t = record {
+  list = t.list;
+  list_text = t.list_text;
+  list_each = λ rest. tokens_before_other true mode rest t.list (steady_tokens t.list (subst (λ x. list_all is_steady x ≡ true) (sym t.list_text) s)) (t.list_each rest);
+  list_front = t.list_front;
+  list_sent = t.list_sent;
+  list_statement = t.list_statement;
+  list_line = t.list_line;
+}
+
 pub fragment_part : (mode : Bool) {n : ℕ} {text : List ℕ} → IsFragment mode n text → list_all is_in_line text ≡ true → SentPart mode text
 fragment_part mode mark_fragment k = part_of mode (codes "?") (mark_text mode)
 fragment_part mode (literal_fragment literal h) k = part_of mode literal (literal_sent mode h k)
+fragment_part mode (steady_fragment literal h s) k = part_of mode literal (steady_in_mode mode literal s (steady_sent h k))
 fragment_part mode (decimal_fragment whole fraction w f) k = part_of mode (whole ++ (codes "." ++ fraction)) (decimal_sent mode whole fraction w f)
 fragment_part mode (negative_decimal_fragment whole fraction w f) k = part_of mode (codes "-" ++ (whole ++ (codes "." ++ fraction))) (negative_sent mode whole fraction w f)
 fragment_part mode (double_fragment text h) k = part_of mode text (double_sent mode h)
@@ -212,6 +229,7 @@ pub fragment_sent : (mode : Bool) {n : ℕ} {text : List ℕ} → IsFragment mod
     begins_no_word_of_client text ≡ true → SentText mode text
 fragment_sent mode mark_fragment k w = mark_text mode
 fragment_sent mode (literal_fragment literal h) k w = literal_sent mode h k
+fragment_sent mode (steady_fragment literal h s) k w = steady_in_mode mode literal s (steady_sent h k)
 fragment_sent mode (decimal_fragment whole fraction d f) k w = decimal_sent mode whole fraction d f
 fragment_sent mode (negative_decimal_fragment whole fraction d f) k w = negative_sent mode whole fraction d f
 fragment_sent mode (double_fragment text h) k w = double_sent mode h

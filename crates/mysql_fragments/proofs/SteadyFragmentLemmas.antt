@@ -48,7 +48,7 @@ use Rattle.mysql_steady_text.proofs.SteadyClientLemmas.{bound_alone}
 
 -- ---- steady texts of fragments
 
-pub AllSteady : List (List ℕ) → Type 0
+unfoldable pub AllSteady : List (List ℕ) → Type 0
 AllSteady [] = ⊤
 AllSteady (text ∷ texts) = (list_all is_steady text ≡ true) × AllSteady texts
 
@@ -69,7 +69,7 @@ texts_steady place (fragment ∷ fragments) e =
       | inr h ↦ let none : Some place ≡ None = rw h at e in absurd (some_none none)
     ]
 
-none_unsteady : (place : ℕ) (fragments : List Fragment) → AllSteady (map fragment_text fragments) →
+pub none_unsteady : (place : ℕ) (fragments : List Fragment) → AllSteady (map fragment_text fragments) →
     first_unsteady_from place fragments ≡ None
 unfolding AllSteady
 none_unsteady place [] s = refl
@@ -92,7 +92,7 @@ bound_steady (t ∷ ts) texts h s =
     let p = all_parts is_steady (bytes_of t) (text_of ts) h in all_both (bytes_of t) (bound ts texts) p.0 (bound_steady ts texts p.1 s)
 
 -- and only these do
-bound_parts : (ts : List Token) (texts : List (List ℕ)) → length texts ≡ place_count ts → list_all is_steady (bound ts texts) ≡ true →
+pub bound_parts : (ts : List Token) (texts : List (List ℕ)) → length texts ≡ place_count ts → list_all is_steady (bound ts texts) ≡ true →
     AllSteady texts
 unfolding AllSteady
 bound_parts [] [] n h = tt

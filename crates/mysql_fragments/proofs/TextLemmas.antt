@@ -67,13 +67,6 @@ row_written before marks text1 text2 text3 e1 e2 e3 =
     e3 ∙ (ap (λ u. u ++ byte ")" ∷ []) (e2 ∙ ap (λ u. u ++ marks) e1)
     ∙ (append_assoc (before ++ byte "(" ∷ []) marks (byte ")" ∷ []) ∙ append_assoc before (byte "(" ∷ []) (marks ++ byte ")" ∷ [])))
 
--- an assignment: its column, ` = ` and its item
-pub assignment_written : (before column item text1 text2 text3 : List ℕ) → text1 ≡ before ++ column → text2 ≡ text1 ++ codes " = " →
-    text3 ≡ text2 ++ item → text3 ≡ before ++ (column ++ (codes " = " ++ item))
-assignment_written before column item text1 text2 text3 e1 e2 e3 =
-    e3 ∙ (ap (λ u. u ++ item) (e2 ∙ ap (λ u. u ++ codes " = ") e1)
-    ∙ (append_assoc (before ++ column) (codes " = ") item ∙ append_assoc before column (codes " = " ++ item)))
-
 -- ---- backquotes
 
 doubled_more : (xs : List ℕ) (b : ℕ) → doubled (xs ++ b ∷ []) ≡ doubled xs ++ doubled (b ∷ [])

@@ -31,7 +31,7 @@ use Rattle.mysql_fragments.specs.declared.fragment.Fragment.{Fragment}
 use Rattle.mysql_fragments.specs.declared.fragment.Fragment.TheVariants as one
 
 -- the fragments of values
-abbrev of_values : List Value → List Fragment
+abbrev pub of_values : List Value → List Fragment
 of_values values = map (λ value. one.Value value) values
 
 -- ---- the causes
@@ -92,7 +92,7 @@ same_first_cause ts given params values f l =
 
 -- ---- the text
 
-values_of : (values : List Value) → all_values (of_values values) ≡ values
+pub values_of : (values : List Value) → all_values (of_values values) ≡ values
 values_of [] = refl
 values_of (value ∷ values) = ap (λ vs. value ∷ vs) (values_of values)
 

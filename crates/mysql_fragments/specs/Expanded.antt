@@ -1,6 +1,7 @@
 -- A query with fragments in its places, and the text that is bound to it.
-use Rattle.std.specs.Prelude.{◌≡◌, ℕ, Bool, true, List, map, Some, None, Ok}
+use Rattle.std.specs.Prelude.{◌≡◌, ℕ, Bool, true, List, map, Some, None, Ok, All}
 use Rattle.mysql_values.specs.declared.value.Value.{Value}
+use Rattle.mysql_values.specs.Value.{FieldsInRange}
 use Rattle.mysql_named_params.specs.Tokens.{Token, IsTokens}
 use Rattle.mysql_named_params.specs.NamesAndMarks.{names}
 use Rattle.mysql_params_core.specs.GivenValues.{positional}
@@ -38,10 +39,12 @@ pub record IsExpandedQuery (as_literals mode : Bool) (ts : List Token) (given : 
   pub values_are : values ≡ all_values expanded.fragments
 
 -- The text that is bound to a query with fragments: the one that `bind_text` gives for the expanded
--- query and its values. So all of Isolation.antt holds of it.
+-- query and its values. So all of Isolation.antt holds of it. Each field of a value is in the range
+-- of its type.
 pub record IsBoundFragments (mode : Bool) (ts : List Token) (given : GivenFragments)
     (text : List ℕ) : Type 0 where
   pub query : List ℕ
   pub expanded : IsExpanded true mode ts given query
   pub bound : IsBoundText mode (with_literal_tokens ts expanded.lists)
       (positional (all_values expanded.fragments)) text
+  pub in_range : All FieldsInRange (all_values expanded.fragments)

@@ -1,9 +1,11 @@
 -- The shape of the text that is put in a place of a query, with the number of its marks. It is a
--- mark, a literal, an exact number, a double, an identifier, a keyword, an assignment, or several
--- of these in a list or a row.
+-- mark, a literal, a steady literal, an exact number, a double, an identifier, a keyword, an
+-- assignment, or several of these in a list or a row.
 use Rattle.std.specs.Prelude.{◌+◌, ℕ, Bool, IsTrue, IsFalse, List, [], ◌∷◌, ◌++◌, codes, ⊤}
 use Rattle.mysql_sql_text.specs.LiteralShape.{AreDigits, IsLiteral}
+use Rattle.mysql_portable.specs.SteadyBytes.{IsSteady}
 use Rattle.mysql_float_literal.specs.DoubleShape.{IsDouble}
+use Rattle.mysql_steady_text.specs.SteadyShape.{IsSteadyLiteral}
 use Rattle.mysql_fragments.specs.FragmentFaults.{escapes_end, is_keyword}
 use Rattle.mysql_fragments.specs.FragmentText.{identifier_text}
 
@@ -19,6 +21,9 @@ pub data IsFragment (mode : Bool) : ℕ → List ℕ → Type 0 where
   mark_fragment : IsFragment mode 1 (codes "?")
   -- a literal, such as a whole number
   literal_fragment : (literal : List ℕ) → IsLiteral mode literal → IsFragment mode 0 literal
+  -- a steady literal
+  steady_fragment : (literal : List ℕ) → IsSteadyLiteral literal → IsSteady literal →
+      IsFragment mode 0 literal
   -- digits, a point and digits: an exact number
   decimal_fragment : (whole fraction : List ℕ) → AreDigits whole → AreDigits fraction →
       IsFragment mode 0 (whole ++ (codes "." ++ fraction))

@@ -3,6 +3,7 @@ pub mod FragmentFaults
 pub mod FragmentShape
 pub mod GivenFragments
 pub mod FragmentErrors
+pub mod TextOfFragments
 pub mod Expanded
 pub mod ReadFragment
 pub mod ValueFragments

@@ -23,8 +23,8 @@ use mysql_params_core::params::ParamsConfusionError;
 use std::alloc::{AllocError, Global};
 
 /// The query with a fragment in the place of each mark, its values as literals. The text is the one
-/// that [`bind_fragments_in`](crate::bind_fragments_in) gives for positional fragments of the same
-/// content. The fragments are borrowed: only one vector of the text's length is allocated.
+/// that `bind_fragments_in` gives for positional fragments of the same content. The fragments are
+/// borrowed: only one vector of the text's length is allocated.
 ///
 /// It refuses for the same causes in the same order. [`RowsRef::new`](crate::RowsRef::new) already
 /// refuses rows of two lengths.

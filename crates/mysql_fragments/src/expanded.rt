@@ -45,13 +45,12 @@ pub struct ExpandedQuery {
 /// - `Mixed`: names and marks in one query;
 /// - `Missing` or `Confusion`: a name without a fragment, or fragments of the other kind;
 /// - `MarkCount`: in a query without names, marks that aren't as many as the fragments;
-/// - `NotAlone`: a place that doesn't stand alone, as [`bind_text_in`](mysql_binding::bind_text_in)
-///   tests it;
+/// - `NotAlone`: a place that doesn't stand alone, as `bind_text_in` tests it;
 /// - `Fault`: a fragment that can't be written ([`Fragment::fault`]).
 ///
 /// A float is no cause: it is among the values.
 ///
-/// The flag is the server's mode, like that of [`bind_text_in`](mysql_binding::bind_text_in).
+/// The flag is the server's mode, like that of `bind_text_in`.
 ///
 /// `Memory` may come in place of any other result, except for a query with names and marks.
 // A query has one token list in each mode (`mysql_named_params::laws::one_token_list`), so the
@@ -99,61 +98,8 @@ pub fn expanded_query(
     expanded_query_in(alloc, query, fragments, false)
 }
 
-/// The query with a fragment in the place of each name and mark, its values as literals: `a IN (?)`
-/// with a list of three values is `a IN (1, 'b', NULL)`. The text is the one that
-/// [`bind_text_in`](mysql_binding::bind_text_in) gives for the query of [`expanded_query_in`] and
-/// its values. Nothing else of the query changes.
-///
-/// It refuses for the causes of [`expanded_query_in`], in their order, and for a float, which has
-/// no literal. A float comes directly after a place that doesn't stand alone.
-///
-/// `Memory` may come in place of any other result, except for a query with names and marks. It also
-/// comes if the text would be longer than `isize::MAX` bytes.
-// A query has one token list in each mode (`mysql_named_params::laws::one_token_list`), so the
-// clauses speak of the same `ts`.
-pub fn bind_fragments_in(
-    alloc: Global,
-    query: &[u8],
-    fragments: &Fragments,
-    no_backslash_escape: bool,
-) -> Result<Vec<u8>, FragmentsError>
-    ensures bound { OnTokens no_backslash_escape query.now (λ ts. IfOk result (λ text.
-        IsBoundFragments no_backslash_escape ts (given_fragments fragments.now) text.items)) }
-    ensures refused { OnTokens no_backslash_escape query.now (λ ts. IfErr result
-        (IsCauseOrMemory (first_cause true ts (given_fragments fragments.now)))) }
-
-    // A query with a name and a mark is refused without allocating.
-    ensures mixed { OnTokens no_backslash_escape query.now (λ ts.
-        HasName ts × HasMark ts → IsErrOf result FragmentsError.Mixed) }
-{
-    let reading = Reading {
-        no_backslash_escape,
-        wide_names: false,
-    };
-    bound_fragments(alloc, query, fragments, reading)
-}
-
-/// The query with a fragment in the place of each name and mark, in the mode in which a backslash
-/// escapes: [`bind_fragments_in`] with `false`. It refuses for the same causes.
-pub fn bind_fragments(
-    alloc: Global,
-    query: &[u8],
-    fragments: &Fragments,
-) -> Result<Vec<u8>, FragmentsError>
-    ensures bound { OnTokens with_backslashes query.now (λ ts. IfOk result (λ text.
-        IsBoundFragments with_backslashes ts (given_fragments fragments.now) text.items)) }
-    ensures refused { OnTokens with_backslashes query.now (λ ts. IfErr result
-        (IsCauseOrMemory (first_cause true ts (given_fragments fragments.now)))) }
-
-    // A query with a name and a mark is refused without allocating.
-    ensures mixed { OnTokens with_backslashes query.now (λ ts.
-        HasName ts × HasMark ts → IsErrOf result FragmentsError.Mixed) }
-{
-    bind_fragments_in(alloc, query, fragments, false)
-}
-
 /// [`expanded_query_in`] for a caller that writes the values as literals itself: it also refuses a
-/// float, like [`bind_fragments_in`]. That call writes the text with the literals at once.
+/// float, like `bind_fragments_in`. That call writes the text with the literals at once.
 pub fn expanded_for_literals(
     alloc: Global,
     query: &[u8],
@@ -175,7 +121,7 @@ pub fn expanded_for_literals(
     expanded(alloc, query, fragments, reading, true)
 }
 
-/// The body of [`bind_fragments_in`], for a query in any reading.
+/// The body of `bind_fragments_in`, for a query in any reading.
 pub fn bound_fragments(
     alloc: Global,
     query: &[u8],
@@ -221,7 +167,7 @@ pub(crate) fn expanded(
 }
 
 /// References to the fragments for the places of a query in a reading. It refuses for the causes of
-/// [`expanded_query_in`] and, with `as_literals`, for those of [`bind_fragments_in`].
+/// [`expanded_query_in`] and, with `as_literals`, for those of `bind_fragments_in`.
 pub fn placed_fragments<'f>(
     alloc: Global,
     query: &[u8],

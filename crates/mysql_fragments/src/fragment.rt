@@ -20,7 +20,7 @@ pub enum Item {
 /// A part of SQL text that replaces a name or mark of a query.
 #[derive(Drop)]
 pub enum Fragment {
-    /// The literal of a value, as [`bind_text_in`](mysql_binding::bind_text_in) writes it.
+    /// The literal of a value, as `bind_text_in` writes it.
     Value(Value),
     /// An exact number, such as `-1.50`: at most one `-`, then at most 65 digits with at most one
     /// point between them. It is written as it is, without quotes, so that a server compares it

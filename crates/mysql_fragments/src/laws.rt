@@ -43,8 +43,10 @@ ghost use Rattle.mysql_fragments.specs.declared.fragment.Fragment as said_fragme
 ghost use Rattle.mysql_fragments.specs.declared.fragment.Fragment.TheVariants as fragment;
 ghost use Rattle.mysql_fragments.specs.declared.fragment_ref.FragmentRef as borrowed;
 
+mod filled;
 mod steady;
 
+pub use filled::{texts_of_fragments_are_bound, texts_of_fragments_have_shapes};
 use mysql_binding::laws::{bound_texts_are_sent, bound_texts_in_clients, bound_texts_on_servers};
 pub use steady::{
     anywhere_fragments_on_servers, steady_fragments_are_sent, steady_fragments_in_clients,
@@ -304,11 +306,9 @@ pub fn one_text_with_fragments()
         IsGuardedFragments mode ts given b → a ≡ b }
 {}
 
-/// If the fragments for the places are all values, then
-/// [`bind_fragments_in`](crate::bind_fragments_in) does the same as
-/// [`bind_text_in`](mysql_binding::bind_text_in). Each text that is bound to the fragments is also
-/// bound to the values (`text`), and the first cause that refuses the fragments is the one that
-/// refuses the values (`causes`).
+/// If the fragments for the places are all values, then `bind_fragments_in` does the same as
+/// `bind_text_in`. Each text that is bound to the fragments is also bound to the values (`text`),
+/// and the first cause that refuses the fragments is the one that refuses the values (`causes`).
 pub fn values_bind_as_text()
     ensures text { (mode : Bool) (ts : List Token) (given : GivenFragments) (params : Given)
         (values : List Value) (text : List ℕ) →

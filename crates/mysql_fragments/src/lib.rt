@@ -1,15 +1,15 @@
 //! Fragments: lists, rows, exact numbers, identifiers, columns, assignments and keywords in the
 //! places of a query.
 //!
-//! [`bind_fragments_in`] binds for a mode of the server, and [`bind_fragments`] for the mode in
-//! which a backslash escapes. [`expanded_query_in`] gives the query with marks, and its values, for
-//! a prepared statement. `specs/Expanded.antt` defines their promises. [`bind_borrowed_fragments`]
-//! copies no fragment, and [`bind_borrowed_fragments_into`] allocates nothing. The calls with
-//! `wide` in their names, such as [`bind_wide_fragments_in`], read names with capitals too.
+//! `bind` and `bind_fragments` in `mysql_bind_call` stand on [`bound_fragments`], which binds for a
+//! mode of the server, and on [`bind_steady_fragments`], whose text every server reads alike, in
+//! either mode and over every character set. [`expanded_query_in`] gives the query with marks, and
+//! its values, for a prepared statement. `specs/Expanded.antt` defines their promises.
+//! [`bind_borrowed_fragments`] copies no fragment, and [`bind_borrowed_fragments_into`] allocates
+//! nothing. The calls with `wide` in their names read names with capitals too, as `bind` in
+//! `mysql_bind_call` can.
 //!
-//! [`bind_fragments_anywhere`] gives a text that every server reads alike, in either mode and over
-//! every character set. [`bind_fragments_in_any_mode`] does so for one server. Both write values as
-//! steady literals. `specs/SteadyFragments.antt` defines their promises.
+//! `specs/SteadyFragments.antt` defines the promises of texts with steady literals.
 //! [`bind_wide_fragments_guarded`] writes guarded literals (`specs/GuardedFragments.antt`).
 #![tactic(auto)]
 
@@ -41,8 +41,8 @@ mod written;
 
 pub use bound_refs::{bind_borrowed_fragments, bind_borrowed_fragments_into};
 pub use expanded::{
-    ExpandedQuery, bind_fragments, bind_fragments_in, bound_fragments, expanded_for_literals,
-    expanded_query, expanded_query_in, placed_fragments,
+    ExpandedQuery, bound_fragments, expanded_for_literals, expanded_query, expanded_query_in,
+    placed_fragments,
 };
 pub use filled::filled_query;
 pub use fragment::{ColumnAssignment, Fragment, Fragments, Item, Keyword};
@@ -52,13 +52,11 @@ pub use guarded_fragments::bind_wide_fragments_guarded;
 pub use mysql_binding::TextInRoom;
 pub use placed_refs::{bind_placed_into, placed_error};
 pub use rows_ref::RowsRef;
-pub use steady_fragments::{
-    bind_fragments_anywhere, bind_fragments_in_any_mode, bind_steady_fragments,
-};
+pub use steady_fragments::bind_steady_fragments;
 pub use steady_fragments_error::SteadyFragmentsError;
 pub use unsteady::{first_unsteady_fragment, first_unsteady_place};
 pub use wide::{
-    bind_wide_borrowed_fragments, bind_wide_borrowed_fragments_into, bind_wide_fragments,
-    bind_wide_fragments_in, expanded_wide_query_in,
+    bind_wide_borrowed_fragments, bind_wide_borrowed_fragments_into, bind_wide_fragments_in,
+    expanded_wide_query_in,
 };
 pub use wide_steady::{bind_wide_fragments_anywhere, bind_wide_fragments_in_any_mode};

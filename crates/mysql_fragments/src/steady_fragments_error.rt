@@ -8,9 +8,8 @@ use mysql_steady_text::purpose::QueryRefusal;
 use std::alloc::AllocError;
 use thiserror::Error;
 
-/// Why [`bind_fragments_anywhere`](crate::bind_fragments_anywhere) or
-/// [`bind_fragments_in_any_mode`](crate::bind_fragments_in_any_mode) gave no text: the first cause,
-/// in this order.
+/// Why `bind_fragments_anywhere` or `bind_fragments_in_any_mode` gave no text: the first cause, in
+/// this order.
 #[derive(Debug, PartialEq, Drop, Error)]
 pub enum SteadyFragmentsError {
     /// The query has a backslash or a byte from 128 on; the first is reported.
@@ -20,10 +19,10 @@ pub enum SteadyFragmentsError {
         at: usize,
     },
     /// The query isn't portable; the first construct is reported. It is never returned by
-    /// [`bind_fragments_in_any_mode`](crate::bind_fragments_in_any_mode).
+    /// `bind_fragments_in_any_mode`.
     #[error("Not portable at byte {} of the query: {}", .0.at, .0.construct)]
     Unportable(Unportable),
-    /// A cause of [`bind_fragments`](crate::bind_fragments), or out of memory.
+    /// A cause of `bind_fragments`, or out of memory.
     #[error(transparent)]
     Fragments(FragmentsError),
     /// The fragment for a place has a name with a backslash or a byte from 128 on; the first such

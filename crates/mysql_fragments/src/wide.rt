@@ -1,7 +1,6 @@
 //! Queries with fragments in the places of wide names, which may have capitals.
 ghost use Rattle.std.specs.Prelude.{◌≡◌, false, true, List, IfErr, IfOk, IsErrOf, OnErr};
 ghost use Rattle.mysql_values.specs.Literal.{literal_of};
-ghost use Rattle.mysql_sql_text.specs.StringUnits.{with_backslashes};
 ghost use Rattle.mysql_named_params.specs.Reading.{OnWideTokens};
 ghost use Rattle.mysql_named_params.specs.Places.{HasName, HasMark};
 ghost use Rattle.mysql_binding.specs.TextInRoom.{HasTextOf, IsTextInRoom};
@@ -21,10 +20,9 @@ use mysql_binding::TextInRoom;
 use mysql_named_params::places::Reading;
 use std::alloc::Global;
 
-/// [`bind_fragments_in`](crate::bind_fragments_in) by wide names, as
-/// [`bind_wide_in`](mysql_binding::bind_wide_in) reads them: `:userIds` and `:ID` are names too.
-/// Names that differ only in case are different names. The entries of [`Fragments::Named`] have
-/// these names.
+/// `bind_fragments_in` by wide names: `:userIds` and `:ID` are names too. Names that differ only in
+/// case are different names. The entries of [`Fragments::Named`] have these names. For the crates
+/// above.
 ///
 /// It refuses for the same causes in the same order, over these names. So `x::Text` and `lbl:LOOP`
 /// are refused as places that don't stand alone. For a query whose names have no capitals the
@@ -51,27 +49,7 @@ pub fn bind_wide_fragments_in(
     bound_fragments(alloc, query, fragments, reading)
 }
 
-/// [`bind_wide_fragments_in`] with `false`, in the mode in which a backslash escapes. It refuses
-/// for the same causes.
-pub fn bind_wide_fragments(
-    alloc: Global,
-    query: &[u8],
-    fragments: &Fragments,
-) -> Result<Vec<u8>, FragmentsError>
-    ensures bound { OnWideTokens with_backslashes query.now (λ ts. IfOk result (λ text.
-        IsBoundFragments with_backslashes ts (given_fragments fragments.now) text.items)) }
-    ensures refused { OnWideTokens with_backslashes query.now (λ ts. IfErr result
-        (IsCauseOrMemory (first_cause true ts (given_fragments fragments.now)))) }
-
-    // A query with a name and a mark is refused without allocating.
-    ensures mixed { OnWideTokens with_backslashes query.now (λ ts.
-        HasName ts × HasMark ts → IsErrOf result FragmentsError.Mixed) }
-{
-    bind_wide_fragments_in(alloc, query, fragments, false)
-}
-
-/// [`expanded_query_in`](crate::expanded_query_in) by wide names, as [`bind_wide_fragments_in`]
-/// reads them.
+/// [`expanded_query_in`](crate::expanded_query_in) by wide names.
 pub fn expanded_wide_query_in(
     alloc: Global,
     query: &[u8],
@@ -95,9 +73,8 @@ pub fn expanded_wide_query_in(
     expanded(alloc, query, fragments, reading, false)
 }
 
-/// [`bind_borrowed_fragments`](crate::bind_borrowed_fragments) for a query in which wide names are
-/// read, as [`bind_wide_fragments_in`] reads them. A query with such a name is refused, because the
-/// fragments are by position.
+/// [`bind_borrowed_fragments`](crate::bind_borrowed_fragments) for a query that is read by wide
+/// names. A query with such a name is refused, because the fragments are by position.
 pub fn bind_wide_borrowed_fragments(
     alloc: Global,
     query: &[u8],
@@ -122,8 +99,8 @@ pub fn bind_wide_borrowed_fragments(
     bind_borrowed_in(alloc, query, fragments, reading)
 }
 
-/// [`bind_borrowed_fragments_into`](crate::bind_borrowed_fragments_into) for a query in which wide
-/// names are read, as [`bind_wide_fragments_in`] reads them.
+/// [`bind_borrowed_fragments_into`](crate::bind_borrowed_fragments_into) for a query that is read
+/// by wide names.
 pub fn bind_wide_borrowed_fragments_into(
     query: &[u8],
     fragments: &[FragmentRef<'_>],

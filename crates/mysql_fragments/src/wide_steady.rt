@@ -19,7 +19,7 @@ use mysql_portable::steady::first_unsteady;
 use mysql_steady_text::purpose::{WIDE_ANYWHERE, query_refusal};
 use std::alloc::Global;
 
-/// [`bind_fragments_anywhere`](crate::bind_fragments_anywhere) by wide names, as
+/// `bind_fragments_anywhere` by wide names, as
 /// [`bind_wide_fragments_in`](crate::bind_wide_fragments_in) reads them. The query with its names
 /// in lower case has to be portable:
 /// [`first_unportable_in`](mysql_portable::wide::first_unportable_in) finds nothing in the query.

@@ -1,7 +1,8 @@
 //! Fragments that arguments make. The wanted texts are written by the rules of the MySQL Reference
 //! Manual, "Schema Object Names", "Numeric Literals", "Row Subqueries", "INSERT Statement" and
 //! "UPDATE Statement".
-use mysql_fragments::{FragmentsError, bind_fragments};
+use mysql_bind_call::bind_fragments;
+use mysql_fragments::FragmentsError;
 use mysql_params_core::params::ToParamsError;
 use mysql_to_fragments::{
     AssignmentsOf, Decimal, DoubleOf, Identifier, Identifiers, ListOf, Qualified, RowsOf,

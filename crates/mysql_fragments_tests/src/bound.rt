@@ -4,7 +4,8 @@
 use crate::shared::Plain::{Decimal, Double, Identifier, Keyword, List, Qualified, Rows};
 use crate::shared::PlainItem::{Decimal as Number, Double as Binary, Int, Null};
 use crate::shared::{Plain, bound, fragment};
-use mysql_fragments::{Fragment, Fragments, bind_fragments, expanded_for_literals, expanded_query};
+use mysql_bind_call::bind_fragments;
+use mysql_fragments::{Fragment, Fragments, expanded_for_literals, expanded_query};
 use mysql_values::value::Value;
 use std::alloc::Global;
 use std::collections::HashMap;

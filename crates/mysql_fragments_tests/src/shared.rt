@@ -1,8 +1,7 @@
 //! Fragments as plain data, and what they give.
+use mysql_bind_call::bind_fragments;
 use mysql_float_literal::Double;
-use mysql_fragments::{
-    ColumnAssignment, Fragment, Fragments, FragmentsError, Item, Keyword, bind_fragments,
-};
+use mysql_fragments::{ColumnAssignment, Fragment, Fragments, FragmentsError, Item, Keyword};
 use mysql_values::bytes::Bytes;
 use mysql_values::value::Value;
 use std::alloc::{AllocError, Global};

@@ -1,6 +1,7 @@
 //! Fragments in the mode without backslash escapes, and what one argument makes. The wanted texts
 //! are written by the rules of the MySQL Reference Manual, "String Literals".
-use mysql_fragments::{Fragment, Fragments, Item, bind_fragments_in, expanded_query_in};
+use mysql_bind_call::bind_fragments_in;
+use mysql_fragments::{Fragment, Fragments, Item, expanded_query_in};
 use mysql_to_fragments::{Decimal, ToFragment, ToItem, ToRow, Word};
 use std::alloc::Global;
 

@@ -1,7 +1,7 @@
 //! Fragments as plain data, and what they give.
+use mysql_bind_call::{bind_fragments_anywhere, bind_fragments_in_any_mode};
 use mysql_fragments::{
     ColumnAssignment, Fragment, Fragments, FragmentsError, Item, SteadyFragmentsError,
-    bind_fragments_anywhere, bind_fragments_in_any_mode,
 };
 use mysql_values::bytes::Bytes;
 use mysql_values::value::Value;

@@ -4,11 +4,10 @@
 use crate::shared::Plain::{Identifier, List};
 use crate::shared::PlainItem::{Int, Null};
 use crate::shared::{Plain, fragment};
+use mysql_bind_call::{BindRefusal, Portability, Purpose, QueryRefusal, Scope, bind};
 use mysql_fragments::{
-    FragmentRef, Fragments, FragmentsError, SteadyFragmentsError, TextInRoom,
-    bind_wide_borrowed_fragments, bind_wide_borrowed_fragments_into, bind_wide_fragments,
-    bind_wide_fragments_anywhere, bind_wide_fragments_in, bind_wide_fragments_in_any_mode,
-    expanded_wide_query_in,
+    FragmentRef, Fragments, FragmentsError, TextInRoom, bind_wide_borrowed_fragments,
+    bind_wide_borrowed_fragments_into, expanded_wide_query_in,
 };
 use mysql_values::value::ValueRef;
 use std::alloc::{AllocError, Global};
@@ -32,43 +31,56 @@ fn named(alloc: Global) -> Result<Fragments, AllocError> {
     Ok(Fragments::Named(entries))
 }
 
-// What a query gives in either mode.
-fn given(alloc: Global, query: &[u8], mode: Option<bool>) -> Result<Vec<u8>, FragmentsError> {
-    match named(alloc) {
-        Ok(fragments) => match mode {
-            Some(mode) => bind_wide_fragments_in(alloc, query, &fragments, mode),
-            None => bind_wide_fragments(alloc, query, &fragments),
-        },
-        Err(error) => Err(FragmentsError::Memory(error)),
+// For whom a text is, by wide names.
+fn purpose(scope: Scope, portability: Portability) -> Purpose {
+    Purpose {
+        scope,
+        portability,
+        wide_names: true,
     }
 }
 
-fn gives(alloc: Global, mode: Option<bool>) -> bool {
-    match given(alloc, QUERY, mode) {
-        Ok(text) => text.as_slice() == WANTED,
+// What a query gives for a purpose.
+fn given(alloc: Global, query: &[u8], purpose: Purpose) -> Result<Vec<u8>, BindRefusal> {
+    match named(alloc) {
+        Ok(fragments) => bind(alloc, query, &fragments, purpose),
+        Err(error) => Err(BindRefusal::Memory(error)),
+    }
+}
+
+fn gives(alloc: Global, query: &[u8], purpose: Purpose, wanted: &[u8]) -> bool {
+    match given(alloc, query, purpose) {
+        Ok(text) => text.as_slice() == wanted,
         Err(_) => false,
     }
 }
 
-#[test]
-fn fragments_by_wide_names(rt: HostRuntime) {
-    assert!(rt; gives(rt.alloc(), None));
-    assert!(rt; gives(rt.alloc(), Some(false)));
-    assert!(rt; gives(rt.alloc(), Some(true)));
+fn in_mode(no_backslash_escape: bool) -> Purpose {
+    let scope = Scope::OneMode {
+        no_backslash_escape,
+    };
+    purpose(scope, Portability::Any)
 }
 
-fn refused(alloc: Global, query: &[u8], wanted: FragmentsError) -> bool {
-    match given(alloc, query, Some(false)) {
+#[test]
+fn fragments_by_wide_names(rt: HostRuntime) {
+    assert!(rt; gives(rt.alloc(), QUERY, in_mode(false), WANTED));
+    assert!(rt; gives(rt.alloc(), QUERY, in_mode(true), WANTED));
+}
+
+fn refused(alloc: Global, query: &[u8], purpose: Purpose, wanted: BindRefusal) -> bool {
+    match given(alloc, query, purpose) {
         Ok(_) => false,
-        Err(error) => error == wanted,
+        Err(refusal) => refusal == wanted,
     }
 }
 
 #[test]
 fn labels_are_refused(rt: HostRuntime) {
-    let label = FragmentsError::NotAlone { place: 0, at: 3 };
-    assert!(rt; refused(rt.alloc(), b"lbl:Table", label));
-    assert!(rt; refused(rt.alloc(), b":Table ?", FragmentsError::Mixed));
+    let label = BindRefusal::Fragments(FragmentsError::NotAlone { place: 0, at: 3 });
+    assert!(rt; refused(rt.alloc(), b"lbl:Table", in_mode(false), label));
+    let mixed = BindRefusal::Fragments(FragmentsError::Mixed);
+    assert!(rt; refused(rt.alloc(), b":Table ?", in_mode(false), mixed));
 }
 
 fn expands(alloc: Global) -> bool {
@@ -113,37 +125,16 @@ fn borrowed_fragments(rt: HostRuntime) {
     assert!(rt; refused);
 }
 
-// What a query gives for any server, or only for any mode.
-fn steady(alloc: Global, query: &[u8], any_server: bool) -> Result<Vec<u8>, SteadyFragmentsError> {
-    match named(alloc) {
-        Ok(fragments) if any_server => bind_wide_fragments_anywhere(alloc, query, &fragments),
-        Ok(fragments) => bind_wide_fragments_in_any_mode(alloc, query, &fragments),
-        Err(error) => Err(SteadyFragmentsError::Fragments(FragmentsError::Memory(error))),
-    }
-}
-
-fn steadily(alloc: Global, query: &[u8], any_server: bool, wanted: &[u8]) -> bool {
-    match steady(alloc, query, any_server) {
-        Ok(text) => text.as_slice() == wanted,
-        Err(_) => false,
-    }
-}
-
-fn steadily_refused(alloc: Global, query: &[u8], wanted: SteadyFragmentsError) -> bool {
-    match steady(alloc, query, true) {
-        Ok(_) => false,
-        Err(error) => error == wanted,
-    }
-}
-
 #[test]
 fn steady_fragments_by_wide_names(rt: HostRuntime) {
-    assert!(rt; steadily(rt.alloc(), QUERY, true, WANTED));
-    assert!(rt; steadily(rt.alloc(), QUERY, false, WANTED));
-    assert!(rt; steadily(rt.alloc(), b"[a] (:userIds)", false, b"[a] (7, NULL)"));
-    let unsteady = SteadyFragmentsError::Unsteady { at: 8 };
-    assert!(rt; steadily_refused(rt.alloc(), b":Table '\\'", unsteady));
-    let mixed = SteadyFragmentsError::Fragments(FragmentsError::Mixed);
-    assert!(rt; steadily_refused(rt.alloc(), b":Table ?", mixed));
-    assert!(rt; steady(rt.alloc(), b"/*+ :Table */", true).is_err());
+    let anywhere = purpose(Scope::AnyConnection, Portability::Servers);
+    let in_any_mode = purpose(Scope::AnyConnection, Portability::Any);
+    assert!(rt; gives(rt.alloc(), QUERY, anywhere, WANTED));
+    assert!(rt; gives(rt.alloc(), QUERY, in_any_mode, WANTED));
+    assert!(rt; gives(rt.alloc(), b"[a] (:userIds)", in_any_mode, b"[a] (7, NULL)"));
+    let unsteady = BindRefusal::Query(QueryRefusal::Unsteady { at: 8 });
+    assert!(rt; refused(rt.alloc(), b":Table '\\'", anywhere, unsteady));
+    let mixed = BindRefusal::Fragments(FragmentsError::Mixed);
+    assert!(rt; refused(rt.alloc(), b":Table ?", anywhere, mixed));
+    assert!(rt; given(rt.alloc(), b"/*+ :Table */", anywhere).is_err());
 }

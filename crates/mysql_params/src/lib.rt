@@ -9,12 +9,11 @@
 //! [`bind_text_anywhere`] gives text that is read the same in every mode and over every character
 //! set. [`bind_text_in_both_modes`] takes a query that may hold bytes from 128 on, and gives text
 //! that is read the same in every mode. [`bind_pairs`] and [`bind_values`] take borrowed names and
-//! values, and each of these calls has two such calls beside it. [`bind_wide`] and the calls with
-//! `wide` in their names take names with capitals.
+//! values, and each of these calls has two such calls beside it.
 //!
-//! [`bind`] is one call for all of this. A [`Purpose`] says for which connections, servers and
-//! clients the text is, and which names are read. It binds parameters, pairs, values by position,
-//! a sorted map, or fragments.
+//! [`bind`] is one call for all of this, and for names with capitals. A [`Purpose`] says for which
+//! connections, servers and clients the text is, and which names are read. It binds parameters,
+//! pairs, values by position, a sorted map, or fragments.
 //!
 //! [`bind_text_guarded`] writes text that has the connection's collation. In each mode, and over
 //! each character set of a client, no value leaves its literal.
@@ -41,11 +40,13 @@ pub mod params;
 
 pub use mysql_bind_call::{
     BindRefusal, ByPosition, Portability, Purpose, QueryRefusal, Scope, append, bind, bind_into,
+    bind_pairs, bind_pairs_anywhere, bind_pairs_in_any_mode, bind_pairs_in_both_modes, bind_text,
+    bind_text_anywhere, bind_text_in, bind_text_in_any_mode, bind_text_in_both_modes, bind_values,
+    bind_values_anywhere, bind_values_in_any_mode, bind_values_in_both_modes,
 };
 pub use mysql_binding::{
-    BindError, BindPairsError, ParsedQuery, TextInRoom, WideQuery, bind_pairs, bind_pairs_into,
-    bind_text, bind_text_in, bind_values, bind_values_into, bind_wide, bind_wide_in,
-    bind_wide_pairs, bind_wide_pairs_into, bind_wide_values, bind_wide_values_into,
+    BindError, BindPairsError, ParsedQuery, TextInRoom, WideQuery, bind_pairs_into,
+    bind_values_into, bind_wide_pairs_into, bind_wide_values_into,
 };
 pub use mysql_named_params::places::Reading;
 pub use mysql_portable::client::first_unportable_in_client;
@@ -54,10 +55,5 @@ pub use mysql_portable::steady::first_unsteady;
 pub use mysql_portable::wide::{first_unportable_in, first_unportable_in_client_in};
 pub use mysql_query_core::{RunError, run, words_of};
 pub use mysql_steady_text::{
-    BothModesError, BothModesPairsError, SteadyPairsError, SteadyTextError, bind_pairs_anywhere,
-    bind_pairs_in_any_mode, bind_pairs_in_both_modes, bind_text_anywhere, bind_text_guarded,
-    bind_text_in_any_mode, bind_text_in_both_modes, bind_values_anywhere, bind_values_in_any_mode,
-    bind_values_in_both_modes, bind_wide_anywhere, bind_wide_in_any_mode, bind_wide_in_both_modes,
-    bind_wide_pairs_anywhere, bind_wide_pairs_in_any_mode, bind_wide_pairs_in_both_modes,
-    bind_wide_values_anywhere, bind_wide_values_in_any_mode, bind_wide_values_in_both_modes,
+    BothModesError, BothModesPairsError, SteadyPairsError, SteadyTextError, bind_text_guarded,
 };

@@ -36,8 +36,7 @@ use std::alloc::Global;
 /// [`mysql_params_names`](crate::mysql_params_names) by wide names, which may have capitals:
 /// [`names_into_read`](mysql_flat_params::names_into_read).
 ///
-/// Numbers and report are the same. Wide names are those of
-/// [`bind_wide_in`](mysql_binding::bind_wide_in).
+/// Numbers and report are the same.
 #[unsafe(no_mangle)]
 pub extern "C" fn mysql_params_names_wide(
     alloc: Global,

@@ -15,7 +15,7 @@ ghost use Rattle.mysql_query_core.specs.Words.{names_of_query, bound_query, usag
 
 use crate::run_error::RunError;
 use crate::words::{Command, judge};
-use mysql_binding::bind_text;
+use mysql_bind_call::bind_text;
 use mysql_io::readers_and_writers::{read_whole, write_whole};
 use mysql_named_params::named_params::ParsedNamedParams;
 use mysql_params_core::params::Params;
@@ -27,10 +27,10 @@ use std::io::{Read, Write};
 ///
 /// `names` writes the query with `?` in place of each name, a newline, and each name and a newline.
 /// `bind` and words `NAME=VALUE` write the query with the values bound, as
-/// [`bind_text`](mysql_binding::bind_text) binds them, and nothing else. A value is `null`, `i:` or
-/// `u:` and a decimal number of 64 bits, or `s:` and a text. Without such words the query gets no
-/// parameters. If all names are empty, the values are bound by position. If no name is empty, they
-/// are bound by name. Otherwise the words are refused as `Usage`.
+/// [`bind_text`](mysql_bind_call::bind_text) binds them, and nothing else. A value is `null`, `i:`
+/// or `u:` and a decimal number of 64 bits, or `s:` and a text. Without such words the query gets
+/// no parameters. If all names are empty, the values are bound by position. If no name is empty,
+/// they are bound by name. Otherwise the words are refused as `Usage`.
 ///
 /// The words are checked first. Then the input is read to its end. The output is written only once
 /// all of it is made. No failed read or write is repeated.

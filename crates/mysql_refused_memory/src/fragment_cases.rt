@@ -10,9 +10,9 @@ use crate::inputs::Plain::{Bytes, Double, Float, Int, Null};
 use crate::outcome::Memory::{Asked, Never};
 use crate::outcome::{Case, Is, Memory, cases, judged, row};
 use mysql_fragments::{
-    ExpandedQuery, Keyword, bind_fragments, bind_fragments_in, expanded_for_literals,
-    expanded_query, expanded_query_in,
+    ExpandedQuery, Keyword, expanded_for_literals, expanded_query, expanded_query_in,
 };
+use mysql_params::fragments::{bind_fragments, bind_fragments_in};
 use std::alloc::Global;
 
 /// How the call of this name went, if it stands here.

@@ -21,10 +21,12 @@ mod inputs;
 mod lookup_cases;
 mod maker_cases;
 mod matched_cases;
+mod one_call_cases;
 mod outcome;
 mod pair_cases;
 mod parsed_query_cases;
 mod program_cases;
+mod purposes;
 mod query_cases;
 mod read_cases;
 mod record_cases;
@@ -168,6 +170,9 @@ fn bound_case(alloc: Global, name: &str) -> Option<Case> {
         return Some(case);
     }
     if let Some(case) = pair_cases::case(alloc, name) {
+        return Some(case);
+    }
+    if let Some(case) = one_call_cases::case(alloc, name) {
         return Some(case);
     }
     if let Some(case) = steady_cases::case(alloc, name) {

@@ -1,12 +1,14 @@
 //! Queries bound from names and values, and from fragments, that are borrowed.
 use crate::outcome::Memory::{Asked, Never};
 use crate::outcome::{Case, Memory, Outcome, cases, judged, row};
+use crate::purposes::WIDE_ANYWHERE;
 use mysql_fragments::{FragmentRef, RowsRef, bind_borrowed_fragments};
+use mysql_params::params::NamedPairs;
 use mysql_params::{
-    BindError, BindPairsError, BothModesError, BothModesPairsError, ParsedQuery, SteadyPairsError,
-    SteadyTextError, TextInRoom, bind_pairs, bind_pairs_anywhere, bind_pairs_in_any_mode,
-    bind_pairs_in_both_modes, bind_pairs_into, bind_values, bind_values_anywhere,
-    bind_values_in_any_mode, bind_values_in_both_modes, bind_values_into,
+    BindError, BindPairsError, BothModesError, BothModesPairsError, ByPosition, ParsedQuery,
+    SteadyPairsError, SteadyTextError, TextInRoom, bind, bind_pairs, bind_pairs_anywhere,
+    bind_pairs_in_any_mode, bind_pairs_in_both_modes, bind_pairs_into, bind_values,
+    bind_values_anywhere, bind_values_in_any_mode, bind_values_in_both_modes, bind_values_into,
 };
 use mysql_values::value::ValueRef;
 use std::alloc::Global;
@@ -29,6 +31,7 @@ pub(crate) fn case(alloc: Global, name: &str) -> Option<Case> {
 /// Which call binds.
 #[derive(Clone, Copy)]
 enum Call {
+    Bind,
     Plain,
     Room,
     Parsed,
@@ -86,6 +89,10 @@ fn bound_by(
     wanted: Wanted,
 ) -> Case {
     Ok(match call {
+        Call::Bind => judged(
+            bind(alloc, query, &NamedPairs(pairs), WIDE_ANYWHERE),
+            wanted,
+        ),
         Call::Plain => judged_pairs(bind_pairs(alloc, query, pairs, false), wanted),
         Call::Room => pairs_in_room(alloc, query, pairs, wanted),
         Call::Parsed => {
@@ -126,6 +133,10 @@ const VALUES: &[(&str, ValuesRow)] = cases! {
 
 fn values_bound(alloc: Global, (call, query, values, wanted, memory): ValuesRow) -> Case {
     let outcome = match call {
+        Call::Bind => judged(
+            bind(alloc, query, &ByPosition(values), WIDE_ANYWHERE),
+            wanted,
+        ),
         Call::Plain => judged(bind_values(alloc, query, values, false), wanted),
         Call::Room => values_in_room(alloc, query, values, wanted),
         Call::Parsed => {
@@ -149,7 +160,7 @@ pub(crate) fn judged_pairs(answer: Result<Vec<u8>, BindPairsError>, wanted: Want
 }
 
 /// How a call for steady text of pairs went.
-pub(crate) fn judged_steady(answer: Result<Vec<u8>, SteadyPairsError>, wanted: Wanted) -> Outcome {
+fn judged_steady(answer: Result<Vec<u8>, SteadyPairsError>, wanted: Wanted) -> Outcome {
     match answer {
         Err(SteadyPairsError::Bind(SteadyTextError::Bind(error))) => {
             judged::<Vec<u8>, &[u8], BindError>(Err(error), wanted)
@@ -159,7 +170,7 @@ pub(crate) fn judged_steady(answer: Result<Vec<u8>, SteadyPairsError>, wanted: W
 }
 
 /// How a call for text in both modes of pairs went.
-pub(crate) fn judged_both(answer: Result<Vec<u8>, BothModesPairsError>, wanted: Wanted) -> Outcome {
+fn judged_both(answer: Result<Vec<u8>, BothModesPairsError>, wanted: Wanted) -> Outcome {
     match answer {
         Err(BothModesPairsError::Bind(BothModesError::Bind(error))) => {
             judged::<Vec<u8>, &[u8], BindError>(Err(error), wanted)
@@ -169,7 +180,7 @@ pub(crate) fn judged_both(answer: Result<Vec<u8>, BothModesPairsError>, wanted: 
 }
 
 /// How a call for steady text went.
-pub(crate) fn judged_text(answer: Result<Vec<u8>, SteadyTextError>, wanted: Wanted) -> Outcome {
+fn judged_text(answer: Result<Vec<u8>, SteadyTextError>, wanted: Wanted) -> Outcome {
     match answer {
         Err(SteadyTextError::Bind(error)) => {
             judged::<Vec<u8>, &[u8], BindError>(Err(error), wanted)
@@ -179,7 +190,7 @@ pub(crate) fn judged_text(answer: Result<Vec<u8>, SteadyTextError>, wanted: Want
 }
 
 /// How a call for text in both modes went.
-pub(crate) fn judged_modes(answer: Result<Vec<u8>, BothModesError>, wanted: Wanted) -> Outcome {
+fn judged_modes(answer: Result<Vec<u8>, BothModesError>, wanted: Wanted) -> Outcome {
     match answer {
         Err(BothModesError::Bind(error)) => judged::<Vec<u8>, &[u8], BindError>(Err(error), wanted),
         other => judged(other, wanted),
@@ -254,6 +265,7 @@ fn values_appended(alloc: Global, query: &[u8], values: &[ValueRef<'_>], wanted:
 
 /// Calls with pairs that are put into a sorted map.
 const MANY: &[(&str, Call)] = cases! {
+    "bind of more pairs than are walked" => Call::Bind;
     "bind_pairs of more pairs than are walked" => Call::Plain;
     "bind_pairs of a parsed query of more pairs than are walked" => Call::Parsed;
     "bind_pairs_anywhere of more pairs than are walked" => Call::Anywhere;

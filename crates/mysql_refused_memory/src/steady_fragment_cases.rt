@@ -8,9 +8,8 @@ use crate::fragment_inputs::PlainItem::{Decimal as Number, Value as Item};
 use crate::inputs::Plain::{Bytes, Float, Int, Null};
 use crate::outcome::Memory::{Asked, Never};
 use crate::outcome::{Case, Memory, Outcome, cases, judged, row};
-use mysql_fragments::{
-    FragmentsError, SteadyFragmentsError, bind_fragments_anywhere, bind_fragments_in_any_mode,
-};
+use mysql_fragments::{FragmentsError, SteadyFragmentsError};
+use mysql_params::fragments::{bind_fragments_anywhere, bind_fragments_in_any_mode};
 use std::alloc::Global;
 
 /// How the call of this name went, if it stands here.

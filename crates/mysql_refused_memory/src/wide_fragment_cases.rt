@@ -6,8 +6,11 @@ use crate::fragment_inputs::PlainFragment::{Identifier, Keyword as Word, List, V
 use crate::fragment_inputs::PlainItem::{Decimal as Number, Value as Item};
 use crate::inputs::Plain::{Bytes, Float, Int};
 use crate::outcome::Memory::{Asked, Never};
-use crate::outcome::{Case, Memory, cases, judged, row};
-use mysql_fragments::{bind_wide_fragments, bind_wide_fragments_in, expanded_wide_query_in};
+use crate::outcome::{Case, Memory, Outcome, cases, judged, row};
+use crate::pair_cases::Wanted;
+use crate::purposes::{WIDE, WIDE_WITHOUT_BACKSLASHES};
+use mysql_fragments::{FragmentsError, expanded_wide_query_in};
+use mysql_params::{BindRefusal, Purpose, bind};
 use std::alloc::Global;
 
 /// How the call of this name went, if it stands here.
@@ -18,15 +21,8 @@ pub(crate) fn case(alloc: Global, name: &str) -> Option<Case> {
     Some(expanded(alloc, row(EXPANDED, name)?))
 }
 
-/// A query, what is given, the mode (without one it is `bind_wide_fragments`), the text or the
-/// refusal, and whether it asks for memory.
-type Row = (
-    &'static [u8],
-    InPlaces,
-    Option<bool>,
-    Result<&'static [u8], &'static str>,
-    Memory,
-);
+/// A query, what is given, a purpose, the text or the refusal, and whether it asks for memory.
+type Row = (&'static [u8], InPlaces, Purpose, Wanted, Memory);
 
 /// A name and a list, for names that differ by their case alone.
 const NAME_AND_LIST: InPlaces = Named(&[
@@ -51,41 +47,50 @@ const EMPTY_LIST: InPlaces = Named(&[(b"A", List(&[]))]);
 const EMPTY: &str = "Fault { place: 0, fault: Empty }";
 
 const BOUND: &[(&str, Row)] = cases! {
-    "bind_wide_fragments of a name and a list" =>
-        b":ids IN (:Ids)", NAME_AND_LIST, None, Ok(b"`n` IN (2.5, 'it\\'s')"), Asked;
-    "bind_wide_fragments of a name without capitals" =>
-        b"':Ids', :ids", NAME_AND_LIST, None, Ok(b"':Ids', `n`"), Asked;
-    "bind_wide_fragments of a keyword by position" =>
-        b"ORDER BY ':Ids' ?", WORD, None, Ok(b"ORDER BY ':Ids' DESC"), Asked;
-    "bind_wide_fragments_in of a list without backslash escapes" =>
-        b"'\\', :Ids", NAME_AND_LIST, Some(true), Ok(b"'\\', 2.5, 'it''s'"), Asked;
-    "bind_wide_fragments of more places than are kept" =>
+    "bind fragments by wide names of a name and a list" =>
+        b":ids IN (:Ids)", NAME_AND_LIST, WIDE, Ok(b"`n` IN (2.5, 'it\\'s')"), Asked;
+    "bind fragments by wide names of a name without capitals" =>
+        b"':Ids', :ids", NAME_AND_LIST, WIDE, Ok(b"':Ids', `n`"), Asked;
+    "bind fragments by wide names of a keyword by position" =>
+        b"ORDER BY ':Ids' ?", WORD, WIDE, Ok(b"ORDER BY ':Ids' DESC"), Asked;
+    "bind fragments by wide names of a list without backslash escapes" =>
+        b"'\\', :Ids", NAME_AND_LIST, WIDE_WITHOUT_BACKSLASHES, Ok(b"'\\', 2.5, 'it''s'"), Asked;
+    "bind fragments by wide names of more places than are kept" =>
         b":A,:A,:A,:A,:A,:A,:A,:A,:A,:A,:A,:A,:A,:A,:A,:A,:A", Named(&[(b"A", Value(Int(1)))]),
-        None, Ok(b"1,1,1,1,1,1,1,1,1,1,1,1,1,1,1,1,1"), Asked;
-    "bind_wide_fragments of names and marks" => b":Ids ?", NAME_AND_LIST, None, Err("Mixed"), Never;
-    "bind_wide_fragments_in of names and marks without backslash escapes" =>
-        b"'\\', :Ids, ?", NAME_AND_LIST, Some(true), Err("Mixed"), Never;
-    "bind_wide_fragments of a missing name" =>
-        b":Ids :A", NAME_AND_LIST, None, Err(MISSING_A), Asked;
-    "bind_wide_fragments of positional fragments for names" =>
-        b":Ids", WORD, None, Err(FOR_NAMES), Asked;
-    "bind_wide_fragments of named fragments for marks" =>
-        b"?", NAME_AND_LIST, None, Err(FOR_MARKS), Asked;
-    "bind_wide_fragments of too few fragments" => b"? ?", WORD, None, Err(TOO_FEW), Asked;
-    "bind_wide_fragments of an empty list" => b"(:A)", EMPTY_LIST, None, Err(EMPTY), Asked;
-    "bind_wide_fragments of a place that does not stand alone" =>
-        b"x:Ids", NAME_AND_LIST, None, Err(NOT_ALONE), Asked;
-    "bind_wide_fragments of a float" =>
-        b":A", Named(&[(b"A", Value(Float(0)))]), None, Err("Float { place: 0 }"), Asked;
+        WIDE, Ok(b"1,1,1,1,1,1,1,1,1,1,1,1,1,1,1,1,1"), Asked;
+    "bind fragments by wide names of names and marks" =>
+        b":Ids ?", NAME_AND_LIST, WIDE, Err("Mixed"), Never;
+    "bind fragments by wide names of names and marks without backslash escapes" =>
+        b"'\\', :Ids, ?", NAME_AND_LIST, WIDE_WITHOUT_BACKSLASHES, Err("Mixed"), Never;
+    "bind fragments by wide names of a missing name" =>
+        b":Ids :A", NAME_AND_LIST, WIDE, Err(MISSING_A), Asked;
+    "bind fragments by wide names of positional fragments for names" =>
+        b":Ids", WORD, WIDE, Err(FOR_NAMES), Asked;
+    "bind fragments by wide names of named fragments for marks" =>
+        b"?", NAME_AND_LIST, WIDE, Err(FOR_MARKS), Asked;
+    "bind fragments by wide names of too few fragments" => b"? ?", WORD, WIDE, Err(TOO_FEW), Asked;
+    "bind fragments by wide names of an empty list" =>
+        b"(:A)", EMPTY_LIST, WIDE, Err(EMPTY), Asked;
+    "bind fragments by wide names of a place that does not stand alone" =>
+        b"x:Ids", NAME_AND_LIST, WIDE, Err(NOT_ALONE), Asked;
+    "bind fragments by wide names of a float" =>
+        b":A", Named(&[(b"A", Value(Float(0)))]), WIDE, Err("Float { place: 0 }"), Asked;
 };
 
-fn bound(alloc: Global, (query, given, no_backslash_escape, wanted, memory): Row) -> Case {
+fn bound(alloc: Global, (query, given, purpose, wanted, memory): Row) -> Case {
     let fragments = given.fragments(alloc)?;
-    let answer = match no_backslash_escape {
-        Some(mode) => bind_wide_fragments_in(alloc, query, &fragments, mode),
-        None => bind_wide_fragments(alloc, query, &fragments),
-    };
-    Ok(judged(answer, wanted).with(memory))
+    Ok(judged_bound(bind(alloc, query, &fragments, purpose), wanted).with(memory))
+}
+
+/// [`judged`] for [`bind`] of fragments: a refusal of these is shown by itself.
+pub(crate) fn judged_bound(answer: Result<Vec<u8>, BindRefusal>, wanted: Wanted) -> Outcome {
+    match answer {
+        Err(BindRefusal::Fragments(error)) => {
+            let answer: Result<Vec<u8>, FragmentsError> = Err(error);
+            judged(answer, wanted)
+        }
+        other => judged(other, wanted),
+    }
 }
 
 /// A query, what is given, the mode, the expanded query or the refusal, and whether it asks for

@@ -2,15 +2,15 @@
 //! fragments, that are borrowed.
 use crate::outcome::Memory::{Asked, Never};
 use crate::outcome::{Case, Memory, Outcome, cases, judged, row};
-use crate::pair_cases::{
-    Pair, Wanted, judged_both, judged_modes, judged_pairs, judged_steady, judged_text, told_in_room,
+use crate::pair_cases::{Pair, Wanted, judged_pairs, told_in_room};
+use crate::purposes::{
+    WIDE, WIDE_ANYWHERE, WIDE_IN_ANY_MODE, WIDE_IN_BOTH_MODES, WIDE_WITHOUT_BACKSLASHES,
 };
 use mysql_fragments::{FragmentRef, bind_wide_borrowed_fragments};
+use mysql_params::params::NamedPairs;
 use mysql_params::{
-    BindError, BindPairsError, WideQuery, bind_wide_pairs, bind_wide_pairs_anywhere,
-    bind_wide_pairs_in_any_mode, bind_wide_pairs_in_both_modes, bind_wide_pairs_into,
-    bind_wide_values, bind_wide_values_anywhere, bind_wide_values_in_any_mode,
-    bind_wide_values_in_both_modes, bind_wide_values_into,
+    BindError, BindPairsError, ByPosition, Purpose, WideQuery, bind, bind_wide_pairs_into,
+    bind_wide_values_into,
 };
 use mysql_values::value::ValueRef;
 use std::alloc::Global;
@@ -26,16 +26,13 @@ pub(crate) fn case(alloc: Global, name: &str) -> Option<Case> {
     Some(Ok(fragments_bound(alloc, row(FRAGMENTS, name)?)))
 }
 
-/// Which call binds, and the mode of those that take one.
+/// Which call binds, and its purpose or mode.
 #[derive(Clone, Copy)]
 enum Call {
-    Plain(bool),
+    Bind(Purpose),
     Room(bool),
     Parsed(bool),
     Appended(bool),
-    Anywhere,
-    AnyMode,
-    BothModes,
 }
 
 /// A call, a query, pairs, the text or the refusal, and whether the call asks for memory.
@@ -50,20 +47,21 @@ const QUERY: &[u8] = b"x=:A OR :a";
 
 const STEADY: &[u8] = b"x=_utf8mb4'it''s' OR NULL";
 
-const UNPORTABLE: &str = "Bind(Unportable(Unportable { construct: Bracket, at: 0 }))";
+const UNPORTABLE: &str = "Query(Unportable(Unportable { construct: Bracket, at: 0 }))";
 
 const PAIRS: &[(&str, PairsRow)] = cases! {
-    "bind_wide_pairs of two pairs" =>
-        Call::Plain(false), QUERY, TWO, Ok(b"x='it\\'s' OR NULL"), Asked;
-    "bind_wide_pairs without backslash escapes" =>
-        Call::Plain(true), b"'\\' OR :A", TWO, Ok(b"'\\' OR 'it''s'"), Asked;
-    "bind_wide_pairs of a name without capitals" =>
-        Call::Plain(false), b"':A'=:a", TWO, Ok(b"':A'=NULL"), Asked;
-    "bind_wide_pairs of a name given twice" =>
-        Call::Plain(false), b"x=:A", TWICE, Err("Redefined { index: 1 }"), Never;
-    "bind_wide_pairs of names and marks" => Call::Plain(false), b":A ?", TWO, Err("Mixed"), Never;
-    "bind_wide_pairs of a place that does not stand alone" =>
-        Call::Plain(false), b"x:A", TWO, Err("NotAlone { place: 0, at: 1 }"), Asked;
+    "bind by wide names of two pairs" =>
+        Call::Bind(WIDE), QUERY, TWO, Ok(b"x='it\\'s' OR NULL"), Asked;
+    "bind by wide names of pairs without backslash escapes" =>
+        Call::Bind(WIDE_WITHOUT_BACKSLASHES), b"'\\' OR :A", TWO, Ok(b"'\\' OR 'it''s'"), Asked;
+    "bind by wide names of pairs for a name without capitals" =>
+        Call::Bind(WIDE), b"':A'=:a", TWO, Ok(b"':A'=NULL"), Asked;
+    "bind by wide names of a name given twice" =>
+        Call::Bind(WIDE), b"x=:A", TWICE, Err("Redefined { index: 1 }"), Never;
+    "bind by wide names of pairs for names and marks" =>
+        Call::Bind(WIDE), b":A ?", TWO, Err("Values(Mixed)"), Never;
+    "bind by wide names of pairs for a place that does not stand alone" =>
+        Call::Bind(WIDE), b"x:A", TWO, Err("Values(NotAlone { place: 0, at: 1 })"), Asked;
     "bind_wide_pairs_into of room" => Call::Room(false), b":a,:a", TWO, Ok(b"NULL,NULL"), Asked;
     "bind_wide_pairs_into of room without backslash escapes" =>
         Call::Room(true), b"'\\',:A", TWO, Ok(b"'\\','it''s'"), Asked;
@@ -76,22 +74,25 @@ const PAIRS: &[(&str, PairsRow)] = cases! {
     "append_pairs of a WideQuery with a missing name" =>
         Call::Appended(true), b"x=:Aa", TWO,
         Err("Params(Missing(MissingNamedParameterError([65, 97])))"), Asked;
-    "bind_wide_pairs_anywhere of two pairs" => Call::Anywhere, QUERY, TWO, Ok(STEADY), Asked;
-    "bind_wide_pairs_anywhere of a query in doubt" =>
-        Call::Anywhere, b"/*! */ :A", TWO, Ok(b"/*! */ _utf8mb4'it''s'"), Asked;
-    "bind_wide_pairs_anywhere of an unsteady query" =>
-        Call::Anywhere, b"x=:A\\", TWO, Err("Bind(Unsteady { at: 4 })"), Never;
-    "bind_wide_pairs_anywhere of a query that is not portable" =>
-        Call::Anywhere, b"[ :A", TWO, Err(UNPORTABLE), Never;
-    "bind_wide_pairs_in_any_mode of two pairs" => Call::AnyMode, QUERY, TWO, Ok(STEADY), Asked;
-    "bind_wide_pairs_in_both_modes of two pairs" => Call::BothModes, QUERY, TWO, Ok(STEADY), Asked;
-    "bind_wide_pairs_in_both_modes of a query in doubt" =>
-        Call::BothModes, b"/*! */ :A", TWO, Ok(b"/*! */ _utf8mb4'it''s'"), Asked;
+    "bind by wide names anywhere of two pairs" =>
+        Call::Bind(WIDE_ANYWHERE), QUERY, TWO, Ok(STEADY), Asked;
+    "bind by wide names anywhere of pairs for a query in doubt" =>
+        Call::Bind(WIDE_ANYWHERE), b"/*! */ :A", TWO, Ok(b"/*! */ _utf8mb4'it''s'"), Asked;
+    "bind by wide names anywhere of pairs for an unsteady query" =>
+        Call::Bind(WIDE_ANYWHERE), b"x=:A\\", TWO, Err("Query(Unsteady { at: 4 })"), Never;
+    "bind by wide names anywhere of pairs for a query that is not portable" =>
+        Call::Bind(WIDE_ANYWHERE), b"[ :A", TWO, Err(UNPORTABLE), Never;
+    "bind by wide names in any mode of two pairs" =>
+        Call::Bind(WIDE_IN_ANY_MODE), QUERY, TWO, Ok(STEADY), Asked;
+    "bind by wide names in both modes of two pairs" =>
+        Call::Bind(WIDE_IN_BOTH_MODES), QUERY, TWO, Ok(STEADY), Asked;
+    "bind by wide names in both modes of pairs for a query in doubt" =>
+        Call::Bind(WIDE_IN_BOTH_MODES), b"/*! */ :A", TWO, Ok(b"/*! */ _utf8mb4'it''s'"), Asked;
 };
 
 fn pairs_bound(alloc: Global, (call, query, pairs, wanted, memory): PairsRow) -> Case {
     let outcome = match call {
-        Call::Plain(mode) => judged_pairs(bind_wide_pairs(alloc, query, pairs, mode), wanted),
+        Call::Bind(purpose) => judged(bind(alloc, query, &NamedPairs(pairs), purpose), wanted),
         Call::Room(mode) => pairs_in_room(alloc, query, pairs, mode, wanted),
         Call::Parsed(mode) => {
             let parsed = WideQuery::parse_in(alloc, query, mode)?;
@@ -105,9 +106,6 @@ fn pairs_bound(alloc: Global, (call, query, pairs, wanted, memory): PairsRow) ->
                 wanted,
             )?
         }
-        Call::Anywhere => judged_steady(bind_wide_pairs_anywhere(alloc, query, pairs), wanted),
-        Call::AnyMode => judged_steady(bind_wide_pairs_in_any_mode(alloc, query, pairs), wanted),
-        Call::BothModes => judged_both(bind_wide_pairs_in_both_modes(alloc, query, pairs), wanted),
     };
     Ok(outcome.with(memory))
 }
@@ -127,13 +125,16 @@ const TEXT: &[ValueRef] = &[ValueRef::Bytes(b"it's")];
 
 const FOR_NAMES: &str = "Params(Confusion(PositionalParamsForNamedQuery))";
 
+const VALUES_FOR_NAMES: &str = "Values(Params(Confusion(PositionalParamsForNamedQuery)))";
+
 const VALUES: &[(&str, ValuesRow)] = cases! {
-    "bind_wide_values of a value" => Call::Plain(false), b"':A'=?", FIVE, Ok(b"':A'=5"), Asked;
-    "bind_wide_values without backslash escapes" =>
-        Call::Plain(true), b"'\\'=?", TEXT, Ok(b"'\\'='it''s'"), Asked;
-    "bind_wide_values of values for names" => Call::Plain(false), b"x=:A", FIVE, Err(FOR_NAMES),
-        Asked;
-    "bind_wide_values of names and marks" => Call::Plain(false), b":A ?", FIVE, Err("Mixed"), Never;
+    "bind by wide names of a value" => Call::Bind(WIDE), b"':A'=?", FIVE, Ok(b"':A'=5"), Asked;
+    "bind by wide names of a value without backslash escapes" =>
+        Call::Bind(WIDE_WITHOUT_BACKSLASHES), b"'\\'=?", TEXT, Ok(b"'\\'='it''s'"), Asked;
+    "bind by wide names of values for names" =>
+        Call::Bind(WIDE), b"x=:A", FIVE, Err(VALUES_FOR_NAMES), Asked;
+    "bind by wide names of values for names and marks" =>
+        Call::Bind(WIDE), b":A ?", FIVE, Err("Values(Mixed)"), Never;
     "bind_wide_values_into of room" => Call::Room(false), b"x=?", TEXT, Ok(b"x='it\\'s'"), Asked;
     "bind_wide_values_into of room without backslash escapes" =>
         Call::Room(true), b"x=?", TEXT, Ok(b"x='it''s'"), Asked;
@@ -143,19 +144,22 @@ const VALUES: &[(&str, ValuesRow)] = cases! {
     "append_values of a WideQuery" => Call::Appended(true), b"x=?", TEXT, Ok(b"xyx='it''s'"), Asked;
     "append_values of a WideQuery for names" =>
         Call::Appended(false), b"x=:A", FIVE, Err(FOR_NAMES), Asked;
-    "bind_wide_values_anywhere of a value" => Call::Anywhere, b"x=?", FIVE, Ok(b"x=5"), Asked;
-    "bind_wide_values_anywhere of a query in doubt" =>
-        Call::Anywhere, b"/*! */ :A", FIVE, Err(FOR_NAMES), Asked;
-    "bind_wide_values_in_any_mode of a value" => Call::AnyMode, b"[ ?", FIVE, Ok(b"[ 5"), Asked;
-    "bind_wide_values_in_both_modes of a value" =>
-        Call::BothModes, b"'\xC3\xBC'=?", TEXT, Ok(b"'\xC3\xBC'=_utf8mb4'it''s'"), Asked;
-    "bind_wide_values_in_both_modes of a query in doubt" =>
-        Call::BothModes, b"/*! */ :A", FIVE, Err(FOR_NAMES), Asked;
+    "bind by wide names anywhere of a value" =>
+        Call::Bind(WIDE_ANYWHERE), b"x=?", FIVE, Ok(b"x=5"), Asked;
+    "bind by wide names anywhere of values for a query in doubt" =>
+        Call::Bind(WIDE_ANYWHERE), b"/*! */ :A", FIVE, Err(VALUES_FOR_NAMES), Asked;
+    "bind by wide names in any mode of a value" =>
+        Call::Bind(WIDE_IN_ANY_MODE), b"[ ?", FIVE, Ok(b"[ 5"), Asked;
+    "bind by wide names in both modes of a value" =>
+        Call::Bind(WIDE_IN_BOTH_MODES), b"'\xC3\xBC'=?", TEXT,
+        Ok(b"'\xC3\xBC'=_utf8mb4'it''s'"), Asked;
+    "bind by wide names in both modes of values for a query in doubt" =>
+        Call::Bind(WIDE_IN_BOTH_MODES), b"/*! */ :A", FIVE, Err(VALUES_FOR_NAMES), Asked;
 };
 
 fn values_bound(alloc: Global, (call, query, values, wanted, memory): ValuesRow) -> Case {
     let outcome = match call {
-        Call::Plain(mode) => judged(bind_wide_values(alloc, query, values, mode), wanted),
+        Call::Bind(purpose) => judged(bind(alloc, query, &ByPosition(values), purpose), wanted),
         Call::Room(mode) => values_in_room(alloc, query, values, mode, wanted),
         Call::Parsed(mode) => {
             let parsed = WideQuery::parse_in(alloc, query, mode)?;
@@ -168,11 +172,6 @@ fn values_bound(alloc: Global, (call, query, values, wanted, memory): ValuesRow)
                 values,
                 wanted,
             )?
-        }
-        Call::Anywhere => judged_text(bind_wide_values_anywhere(alloc, query, values), wanted),
-        Call::AnyMode => judged_text(bind_wide_values_in_any_mode(alloc, query, values), wanted),
-        Call::BothModes => {
-            judged_modes(bind_wide_values_in_both_modes(alloc, query, values), wanted)
         }
     };
     Ok(outcome.with(memory))

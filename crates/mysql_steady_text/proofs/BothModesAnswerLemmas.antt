@@ -1,23 +1,18 @@
 -- The promises of `bind_text_in_both_modes`, from those of its parts in one mode.
-use Rattle.std.specs.Prelude.{Bool, Result, Ok, Err, IfOk}
+use Rattle.std.specs.Prelude.{Bool}
 use Rattle.std.proofs.Common.{◌≡◌, ℕ, true, List, Option, None, sym, ◌∙◌}
 use Rattle.mysql_named_params.specs.Tokens.{Token, OnTokens}
 use Rattle.mysql_named_params.specs.Reading.{grammar_reading}
 use Rattle.mysql_portable.specs.FirstUnportable.{first_unportable}
 use Rattle.mysql_portable.specs.Steady.{HoldNoEscapes}
-use Rattle.mysql_portable.specs.declared.portable.Unportable.{Unportable}
 use Rattle.mysql_portable.proofs.OtherModeLemmas.{tokens_other}
 use Rattle.mysql_portable.proofs.UnportableLemmas.{none_is_portable}
 use Rattle.mysql_params_core.specs.Given.{Given}
-use Rattle.mysql_binding.specs.WrittenText.{IsGivenText}
 use Rattle.mysql_binding.proofs.CauseLemmas.{on_both}
-use Rattle.mysql_steady_text.specs.SteadyLiteral.{steady_literal_of}
-use Rattle.mysql_steady_text.specs.SteadyLiterals.{IsSteadyFor}
-use Rattle.mysql_steady_text.specs.BothModesText.{IsTextInBothModes, IsPortableInBothModes, IsByPositionInBothModes}
+use Rattle.mysql_steady_text.specs.BothModesText.{IsTextInBothModes, IsPortableInBothModes}
 use Rattle.mysql_steady_text.specs.FirstBackslash.{first_backslash}
 use Rattle.mysql_steady_text.proofs.BackslashLemmas.{hold_no_escapes}
-use Rattle.mysql_steady_text.proofs.BothModesTextLemmas.{in_both_modes, portable_in_both}
-use Rattle.mysql_steady_text.proofs.BothModesAgainLemmas.{positioned_of}
+use Rattle.mysql_steady_text.proofs.BothModesTextLemmas.{portable_in_both}
 
 -- the modes agree on a query
 abbrev pub Agree : List ℕ → Type 0
@@ -34,14 +29,6 @@ in_each_mode query P none o mode =
     let b = on_both (grammar_reading true) query HoldNoEscapes P none o in
     (b.0, tokens_other true mode query b.0 b.2.0 b.1, b.2.1)
 
-pub bound_answer : {A E : Type 0} (items : A → List ℕ) (query : List ℕ) (given : Given) → Agree query → (r : Result A E) →
-    OnTokens true query (λ ts. IfOk r (λ text. IsGivenText steady_literal_of IsSteadyFor ts given (items text))) →
-    OnTokens true query (λ ts. IfOk r (λ text. IsTextInBothModes ts given (items text)))
-bound_answer items query given none (Ok text) o =
-    let b = on_both (grammar_reading true) query HoldNoEscapes (λ ts. IsGivenText steady_literal_of IsSteadyFor ts given (items text)) none o in
-    (b.0, b.1, in_both_modes query b.0 given (items text) b.1 b.2.0 b.2.1)
-bound_answer items query given none (Err e) o = o
-
 -- of a text that is bound
 module _ (query : List ℕ) (given : Given) (text : List ℕ) (none : Agree query) (o : OnTokens true query (λ ts. IsTextInBothModes ts given text)) where
   pub portable_answer : OnTokens true query (λ ts. first_unportable ts ≡ None) → (mode : Bool) →
@@ -52,8 +39,3 @@ module _ (query : List ℕ) (given : Given) (text : List ℕ) (none : Agree quer
         tokens_other true mode query b.0 b.2.0 b.1,
         portable_in_both query b.0 given text (λ other. tokens_other true other query b.0 b.2.0 b.1) (none_is_portable b.0 b.2.1.0) b.2.1.1,
       )
-
-  pub positioned_answer : (mode : Bool) → OnTokens mode query (λ ts. IsByPositionInBothModes mode ts given text)
-  positioned_answer mode =
-      let b = in_each_mode query (λ ts. IsTextInBothModes ts given text) none o mode in
-      (b.0, b.1, positioned_of (grammar_reading mode) query b.0 given text b.1 b.2)

@@ -13,7 +13,6 @@ pub mod FormLemmas
 pub mod WideSteadyLemmas
 pub mod WideBothModesLemmas
 pub mod PurposeLemmas
-pub mod PairsLemmas
 pub mod GuardedFormLemmas
 pub mod GuardedRunLemmas
 pub mod ReadInLemmas

@@ -9,7 +9,7 @@ use Rattle.mysql_named_params.specs.WideNames.{widened}
 use Rattle.mysql_named_params.proofs.TokensExistLemmas.{tokens_exist}
 use Rattle.mysql_portable.specs.Clear.{is_clear, is_clear_in_client}
 use Rattle.mysql_portable.specs.FirstUnportable.{first_unportable}
-use Rattle.mysql_portable.specs.FirstUnportableInClient.{first_unportable_in_client, IsPortableInClient}
+use Rattle.mysql_portable.specs.FirstUnportableInClient.{first_unportable_in_client}
 use Rattle.mysql_portable.specs.Steady.{first_unsteady, IsSteady}
 use Rattle.mysql_portable.specs.declared.portable.Unportable.{Unportable}
 use Rattle.mysql_portable.proofs.ClearInClientLemmas.{clear_in_client_is_portable}
@@ -21,7 +21,6 @@ use Rattle.mysql_portable.proofs.WideWalkLemmas.{in_grammar}
 use Rattle.mysql_binding.proofs.CauseLemmas.{on_both}
 use Rattle.mysql_steady_text.specs.FirstBackslash.{first_backslash}
 use Rattle.mysql_steady_text.specs.Purposes.{first_construct, mode_in, query_refusal, reading_for, scope_refusal}
-use Rattle.mysql_steady_text.specs.declared.purpose.Portability.{Portability}
 use Rattle.mysql_steady_text.specs.declared.purpose.Purpose.{Purpose}
 use Rattle.mysql_steady_text.specs.declared.purpose.QueryRefusal.{QueryRefusal}
 use Rattle.mysql_steady_text.specs.declared.purpose.QueryRefusal.TheVariants as refusal

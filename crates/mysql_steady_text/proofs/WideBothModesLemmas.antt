@@ -1,52 +1,40 @@
 -- Texts for both modes of queries with wide names: by the query with marks, and by the one with names
 -- in lower case.
-use Rattle.std.specs.Prelude.{Bool, Result, Ok, Err, IfErr, IfOk, Option, Some}
-use Rattle.std.proofs.Common.{◌≡◌, ◌+◌, ◌∙◌, ℕ, All, true, false, List, [], ◌∷◌, None, arith, inr, length, refl, sym, ap, subst, length-append}
+use Rattle.std.specs.Prelude.{Bool, Ok, Some}
+use Rattle.std.proofs.Common.{◌≡◌, ◌+◌, ◌∙◌, ℕ, All, true, false, List, [], ◌∷◌, None, arith, length, refl, sym, ap, subst, length-append}
 use Rattle.std.specs.Option.{option_or}
 use Rattle.mysql_values.specs.declared.value.Value.{Value}
 use Rattle.mysql_named_params.specs.LoweredNames.{lower_names}
 use Rattle.mysql_named_params.specs.Places.{names, place_count, with_marks}
 use Rattle.mysql_named_params.specs.Reading.{IsTokensIn, OnTokensIn, OnWideTokens, reading_with, wide_reading}
-use Rattle.mysql_named_params.specs.Tokens.{Token, IsTokens, OnTokens, bytes_of, text_of, Name, Plain}
+use Rattle.mysql_named_params.specs.Tokens.{Token, IsTokens, bytes_of, text_of, Name, Plain}
 use Rattle.mysql_named_params.specs.WideNames.{IsWideName, run, widened, widened_from}
 use Rattle.mysql_named_params.proofs.LoweredLemmas.{lowered_tokens}
 use Rattle.mysql_named_params.proofs.ReparsedLemmas.{marked_reading, names_in_reading, names-with_marks}
 use Rattle.mysql_named_params.proofs.TokenListLemmas.{one_token_list}
 use Rattle.mysql_named_params.proofs.WideLemmas.{goes_on, none_taken, opens, plain_case, stays, taken, taken_colon, taken_none, taken_wide}
-use Rattle.mysql_portable.specs.Clear.{is_clear}
-use Rattle.mysql_portable.specs.FirstUnportable.{first_unportable}
 use Rattle.mysql_portable.specs.Portable.{IsPortable}
 use Rattle.mysql_portable.specs.Steady.{HoldNoEscapes}
-use Rattle.mysql_portable.specs.declared.portable.Unportable.{Unportable}
-use Rattle.mysql_portable.proofs.ClearLemmas.{clear_query_is_steady}
-use Rattle.mysql_portable.proofs.ClearLoweredLemmas.{clear_wide_is_portable}
 use Rattle.mysql_portable.proofs.OtherModeLemmas.{tokens_other}
 use Rattle.mysql_params_core.specs.Given.{Given, positional}
 use Rattle.mysql_params_core.specs.Lookup.{lookup}
-use Rattle.mysql_binding.specs.BindErrors.{IsCauseOrMemory}
 use Rattle.mysql_binding.specs.FirstCause.{first_cause}
 use Rattle.mysql_binding.specs.Pieces.{pieces, joined_text}
 use Rattle.mysql_binding.specs.Replaced.{with_literal_tokens}
 use Rattle.mysql_binding.specs.WrittenText.{IsGivenText}
 use Rattle.mysql_binding.proofs.BoundAgainLemmas.{pieces-with_marks, with_literal_tokens-with_marks}
-use Rattle.mysql_binding.proofs.CauseLemmas.{on_both, on_map}
 use Rattle.mysql_binding.proofs.PieceLemmas.{joined_text_count}
 use Rattle.mysql_binding.proofs.SpliceLemmas.{as_many_lists}
-use Rattle.mysql_steady_text.specs.BothModesErrors.{IsBothModesRefusal}
-use Rattle.mysql_steady_text.specs.BothModesText.{IsBoundAgainInBothModes, IsByPositionInBothModes, IsTextInBothModes}
+use Rattle.mysql_steady_text.specs.BothModesText.{IsTextInBothModes}
 use Rattle.mysql_steady_text.specs.FirstBackslash.{backslash_in, first_backslash, first_backslash_from}
 use Rattle.mysql_steady_text.specs.SteadyLiteral.{steady_literal_of}
 use Rattle.mysql_steady_text.specs.SteadyLiterals.{IsSteadyFor}
 use Rattle.mysql_steady_text.specs.OnServers.{IsReadInBothModes}
-use Rattle.mysql_steady_text.specs.WideBothModes.{IsBothModesBindRefusal, IsWideTextInBothModes}
-use Rattle.mysql_steady_text.specs.declared.both_modes_error.BothModesError.{BothModesError}
-use Rattle.mysql_steady_text.specs.declared.both_modes_error.BothModesError.TheVariants.{Backslash, Bind}
-use Rattle.mysql_steady_text.specs.declared.both_modes_error.BothModesError.TheVariants as error
-use Rattle.mysql_steady_text.proofs.BackslashLemmas.{hold_no_escapes, steady_has_none}
-use Rattle.mysql_steady_text.proofs.BothModesAgainLemmas.{again_of, positioned_of}
+use Rattle.mysql_steady_text.specs.WideBothModes.{IsWideTextInBothModes}
+use Rattle.mysql_steady_text.proofs.BackslashLemmas.{hold_no_escapes}
 use Rattle.mysql_steady_text.proofs.BothModesAnswerLemmas.{Agree, agree, in_each_mode}
 use Rattle.mysql_steady_text.proofs.BothModesTextLemmas.{in_both_modes, no_escapes_out}
-use Rattle.mysql_steady_text.proofs.WideSteadyLemmas.{lowered_on_servers, lowered_portable, marked_given, wide_nothing}
+use Rattle.mysql_steady_text.proofs.WideSteadyLemmas.{lowered_on_servers, lowered_portable, marked_given}
 
 -- ---- backslashes: no wide name has one
 
@@ -136,13 +124,6 @@ pub in_each_reading : (wide : Bool) (query : List ℕ) (P : List Token → Type 
 in_each_reading false query P none o = in_each_mode query P none o
 in_each_reading true query P none o = in_each_wide query P none o
 
--- the first backslash in a string, of the tokens with wide names
-pub wide_backslash : (query : List ℕ) (found : Option ℕ) → ((mode : Bool) → OnTokens mode query (λ ts. found ≡ first_backslash ts)) →
-    (mode : Bool) → OnWideTokens mode query (λ ts. found ≡ first_backslash ts)
-wide_backslash query found b mode =
-    let o = b mode in
-    (widened o.0, (o.0, o.1, refl), o.2 ∙ sym (first_backslash-widened o.0))
-
 -- ---- by the query with marks
 
 -- the text of the query with marks is that of the query
@@ -175,12 +156,6 @@ is_wide_text query ts given text none is g =
     (in_both_modes (text_of (with_marks ts)) (with_marks ts) (positional g.values) text (marked_reading (wide_reading true) query ts is)
     (marked_no_escapes ts (wide_no_escapes query ts none is)) (marked_given (wide_reading true) query ts given text is g))
 
-pub wide_given_both : (query : List ℕ) (given : Given) (text : List ℕ) → Agree query →
-    OnWideTokens true query (λ ts. IsGivenText steady_literal_of IsSteadyFor ts given text) →
-    (mode : Bool) → OnWideTokens mode query (λ ts. IsTextInBothModes ts given text)
-wide_given_both query given text none o =
-    in_each_wide query (λ ts. IsTextInBothModes ts given text) none (o.0, o.1, is_wide_text query o.0 given text none o.1 o.2)
-
 -- ---- by the query with its names in lower case
 
 module _ (query : List ℕ) (ts : List Token) (given : Given) (text : List ℕ) (none : Agree query) (is : IsTokensIn (wide_reading true) query ts) where
@@ -209,38 +184,3 @@ wide_read_in_both mode query text ts given is t =
     let own : HoldNoEscapes is.0 = no_escapes_back false is.0 (subst HoldNoEscapes is.2 none) in
     let in_true : IsTokens true query is.0 = tokens_other mode true query is.0 own is.1 in
     wide_both_on_servers query ts given text (is.0, in_true, own) (is.0, in_true, is.2) t
-
--- ---- as the calls promise it
-
-pub wide_both_answer : {A E : Type 0} (items : A → List ℕ) (r : Result A E) (query : List ℕ) (given : Given) → Agree query →
-    OnWideTokens true query (λ ts. IsPortable (lower_names ts)) →
-    ((mode : Bool) → OnWideTokens mode query (λ ts. IfOk r (λ text. IsTextInBothModes ts given (items text)))) →
-    (mode : Bool) → OnWideTokens mode query (λ ts. IfOk r (λ text. IsWideTextInBothModes ts given (items text)))
-wide_both_answer items (Ok text) query given none p b =
-    let o = on_both (wide_reading true) query (λ ts. IsPortable (lower_names ts)) (λ ts. IsTextInBothModes ts given (items text)) p (b true) in
-    in_each_wide query (λ ts. IsWideTextInBothModes ts given (items text)) none (o.0, o.1, is_wide_both query o.0 given (items text) none o.1 o.2.0 o.2.1)
-wide_both_answer items (Err e) query given none p b = λ mode. wide_nothing mode query
-
-pub wide_both_refused : {A : Type 0} (r : Result A BothModesError) (mode : Bool) (query : List ℕ) (given : Given) (unportable : List Token → Option Unportable) →
-    OnWideTokens mode query (λ ts. (first_backslash ts ≡ None) × (unportable ts ≡ None)) →
-    OnWideTokens mode query (λ ts. IfErr r (IsBothModesBindRefusal (first_cause ts given))) →
-    OnWideTokens mode query (λ ts. IfErr r (IsBothModesRefusal (first_backslash ts) (unportable ts) (first_cause ts given)))
-wide_both_refused (Ok text) mode query given unportable p b = wide_nothing mode query
-wide_both_refused (Err (Backslash at)) mode query given unportable p b = absurd b.2
-wide_both_refused (Err (error.Unportable found)) mode query given unportable p b = absurd b.2
-wide_both_refused (Err (Bind e)) mode query given unportable p b =
-    on_map (wide_reading mode) query (λ ts. ((first_backslash ts ≡ None) × (unportable ts ≡ None)) × IsCauseOrMemory (first_cause ts given) e)
-    (λ ts. IsBothModesRefusal (first_backslash ts) (unportable ts) (first_cause ts given) (Bind e))
-    (λ ts is h. (h.0.0, h.0.1, h.1))
-    (on_both (wide_reading mode) query (λ ts. (first_backslash ts ≡ None) × (unportable ts ≡ None)) (λ ts. IsCauseOrMemory (first_cause ts given) e) p b)
-
-module _ {A E : Type 0} (items : A → List ℕ) (query : List ℕ) (given : Given) where
-  pub wide_both_again : (mode : Bool) (r : Result A E) → OnWideTokens mode query (λ ts. IfOk r (λ text. IsTextInBothModes ts given (items text))) →
-      IfOk r (λ text. IsBoundAgainInBothModes (items text))
-  wide_both_again mode (Ok text) o = again_of o.0 given (items text) o.2
-  wide_both_again mode (Err e) o = tt
-
-  pub wide_both_position : (mode : Bool) (r : Result A E) → OnWideTokens mode query (λ ts. IfOk r (λ text. IsTextInBothModes ts given (items text))) →
-      OnWideTokens mode query (λ ts. IfOk r (λ text. IsByPositionInBothModes mode ts given (items text)))
-  wide_both_position mode (Ok text) o = (o.0, o.1, positioned_of (wide_reading mode) query o.0 given (items text) o.1 o.2)
-  wide_both_position mode (Err e) o = o

@@ -1,9 +1,9 @@
 -- Steady texts of queries with wide names: by the query with marks, and by the one with names in
 -- lower case.
-use Rattle.std.specs.Prelude.{Bool, Result, Ok, Err, IfErr, IfOk, ⊤}
+use Rattle.std.specs.Prelude.{Bool, Result, Ok, Err, IfOk, ⊤}
 use Rattle.std.specs.List.{list_all}
 use Rattle.std.specs.Char.{to_ascii_lowercase}
-use Rattle.std.proofs.Common.{◌≡◌, ◌+◌, ◌++◌, ◌∙◌, ℕ, All, true, false, List, [], ◌∷◌, None, Option, Some, arith, inr, length, map, refl, sym, ap, subst}
+use Rattle.std.proofs.Common.{◌≡◌, ◌+◌, ◌++◌, ◌∙◌, ℕ, All, true, false, List, [], ◌∷◌, None, Some, arith, length, map, refl, sym, ap, subst}
 use Rattle.std.proofs.lemmas.Bool.{and_from, and_parts}
 use Rattle.std.proofs.lemmas.Bool.Decides.{nat_tests}
 use Rattle.std.proofs.lemmas.List.Elements.{All-tail}
@@ -18,10 +18,8 @@ use Rattle.mysql_named_params.specs.declared.places.Reading.{Reading}
 use Rattle.mysql_named_params.proofs.LoweredLemmas.{lowered_tokens}
 use Rattle.mysql_named_params.proofs.ReadingLemmas.{reading_exists, reading_text}
 use Rattle.mysql_named_params.proofs.ReparsedLemmas.{marked_reading, names_in_reading, names-with_marks}
-use Rattle.mysql_portable.specs.FirstUnportable.{first_unportable}
 use Rattle.mysql_portable.specs.Portable.{IsPortable, IsReadAs}
-use Rattle.mysql_portable.specs.Steady.{first_unsteady, is_steady, IsSteady}
-use Rattle.mysql_portable.specs.declared.portable.Unportable.{Unportable}
+use Rattle.mysql_portable.specs.Steady.{is_steady, IsSteady}
 use Rattle.mysql_portable.proofs.OtherModeLemmas.{all_parts}
 use Rattle.mysql_portable.proofs.SteadyLemmas.{steady_other}
 use Rattle.mysql_params_core.specs.Given.{Given, positional}
@@ -34,8 +32,7 @@ use Rattle.mysql_binding.specs.WrittenText.{IsGivenText}
 use Rattle.mysql_binding.proofs.BoundAgainLemmas.{pieces-with_marks, with_literal_tokens-with_marks}
 use Rattle.mysql_binding.proofs.ContentsLemmas.{alone_parts}
 use Rattle.mysql_binding.proofs.RenamedPlaceLemmas.{EndsAsWell, as_well-append, as_well-name, if_alone}
-use Rattle.mysql_binding.specs.BindErrors.{IsCauseOrMemory}
-use Rattle.mysql_binding.proofs.CauseLemmas.{on_both, on_map, no_cause_parts, no_cause_renamed, no_float_cause, no_place_out, value_each}
+use Rattle.mysql_binding.proofs.CauseLemmas.{on_both, no_cause_parts, no_cause_renamed, no_float_cause, no_place_out, value_each}
 use Rattle.mysql_binding.proofs.PieceLemmas.{joined_text_count}
 use Rattle.mysql_binding.proofs.SpliceLemmas.{as_many_lists}
 use Rattle.mysql_steady_text.specs.SteadyLiteral.{steady_literal_of}
@@ -43,13 +40,7 @@ use Rattle.mysql_steady_text.specs.BothModesText.{IsTextInBothModes}
 use Rattle.mysql_steady_text.specs.OnServers.{IsReadAnywhere, IsReadInBothModes}
 use Rattle.mysql_steady_text.specs.SteadyLiterals.{AreSteadyLiterals, IsSteadyFor}
 use Rattle.mysql_steady_text.specs.SteadyText.{IsSteadyText}
-use Rattle.mysql_steady_text.specs.SteadyAgain.{IsSteadyBoundAgain, IsSteadyByPosition}
-use Rattle.mysql_steady_text.specs.SteadyTextErrors.{IsBindRefusal, IsSteadyRefusal}
 use Rattle.mysql_steady_text.specs.WideAnywhere.{IsWideAnywhereText}
-use Rattle.mysql_steady_text.specs.declared.steady_text_error.SteadyTextError.{SteadyTextError}
-use Rattle.mysql_steady_text.specs.declared.steady_text_error.SteadyTextError.TheVariants.{Unsteady, Bind}
-use Rattle.mysql_steady_text.specs.declared.steady_text_error.SteadyTextError.TheVariants as error
-use Rattle.mysql_steady_text.proofs.SteadyAgainLemmas.{again_of, positioned_of}
 use Rattle.mysql_steady_text.proofs.BothModesTextLemmas.{alone_in, is_portable, read_in_both, shapes_of, tokens_in_both}
 use Rattle.mysql_steady_text.proofs.SteadySpliceLemmas.{all_both}
 use Rattle.mysql_steady_text.proofs.SteadyTextLemmas.{both_of, is_steady_text, seen_on_servers}
@@ -260,26 +251,3 @@ wide_anywhere_answer items (Ok text) query given steady p b mode =
     let o = on_both (wide_reading true) query (λ ts. IsPortable (lower_names ts)) (λ ts. IsSteadyText ts given (items text)) (wide_either query (λ ts. IsPortable (lower_names ts)) false true steady p) (b true) in
     (o.0, wide_other true mode query o.0 steady o.1, is_wide_anywhere_text query o.0 given (items text) o.1 steady o.2.0 o.2.1)
 wide_anywhere_answer items (Err e) query given steady p b mode = wide_nothing mode query
-
-pub wide_refused : {A : Type 0} (r : Result A SteadyTextError) (mode : Bool) (query : List ℕ) (given : Given) (unportable : List Token → Option Unportable) →
-    first_unsteady query ≡ None → OnWideTokens mode query (λ ts. unportable ts ≡ None) →
-    OnWideTokens mode query (λ ts. IfErr r (IsBindRefusal (first_cause ts given))) →
-    OnWideTokens mode query (λ ts. IfErr r (IsSteadyRefusal query (unportable ts) (first_cause ts given)))
-wide_refused (Ok text) mode query given unportable steady p b = wide_nothing mode query
-wide_refused (Err (Unsteady at)) mode query given unportable steady p b = absurd b.2
-wide_refused (Err (error.Unportable found)) mode query given unportable steady p b = absurd b.2
-wide_refused (Err (Bind e)) mode query given unportable steady p b =
-    on_map (wide_reading mode) query (λ ts. (unportable ts ≡ None) × IsCauseOrMemory (first_cause ts given) e) (λ ts. IsSteadyRefusal query (unportable ts) (first_cause ts given) (Bind e))
-    (λ ts is h. (steady, h.0, h.1))
-    (on_both (wide_reading mode) query (λ ts. unportable ts ≡ None) (λ ts. IsCauseOrMemory (first_cause ts given) e) p b)
-
-module _ {A E : Type 0} (items : A → List ℕ) (query : List ℕ) (given : Given) where
-  pub wide_bound_again : (mode : Bool) (r : Result A E) → OnWideTokens mode query (λ ts. IfOk r (λ text. IsSteadyText ts given (items text))) →
-      IfOk r (λ text. IsSteadyBoundAgain (items text))
-  wide_bound_again mode (Ok text) o = again_of o.0 given (items text) o.2
-  wide_bound_again mode (Err e) o = tt
-
-  pub wide_by_position : (mode : Bool) (r : Result A E) → OnWideTokens mode query (λ ts. IfOk r (λ text. IsSteadyText ts given (items text))) →
-      OnWideTokens mode query (λ ts. IfOk r (λ text. IsSteadyByPosition mode ts given (items text)))
-  wide_by_position mode (Ok text) o = (o.0, o.1, positioned_of (wide_reading mode) query o.0 given (items text) o.1 o.2)
-  wide_by_position mode (Err e) o = o

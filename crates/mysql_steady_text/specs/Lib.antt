@@ -7,7 +7,6 @@ pub mod SteadyTextErrors
 pub mod FirstBackslash
 pub mod BothModesText
 pub mod BothModesErrors
-pub mod QueryRefusal
 pub mod Purposes
 pub mod SteadyPairs
 pub mod SteadyLiteral
@@ -26,4 +25,3 @@ pub mod GuardedAgain
 pub mod KnownSets
 pub mod WideAnywhere
 pub mod WideBothModes
-pub mod WidePairs

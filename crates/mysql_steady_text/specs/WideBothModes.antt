@@ -1,17 +1,13 @@
--- The promises about a text that is bound by wide names, for both modes and any server, and the
--- causes of its errors. The query with its names in lower case has to be portable, as for any mode
--- (WideAnywhere.antt). The law `texts_in_both_modes_on_servers` says how every server reads it.
-use Rattle.std.specs.Prelude.{ℕ, List, Option}
+-- The promises about a text that is bound by wide names, for both modes and any server. The query
+-- with its names in lower case has to be portable, as for any mode (WideAnywhere.antt). The law
+-- `texts_in_both_modes_on_servers` says how every server reads it.
+use Rattle.std.specs.Prelude.{ℕ, List}
 use Rattle.mysql_named_params.specs.LoweredNames.{lower_names}
 use Rattle.mysql_named_params.specs.Tokens.{Token}
 use Rattle.mysql_portable.specs.Portable.{IsPortable}
 use Rattle.mysql_params_core.specs.GivenValues.{Given}
-use Rattle.mysql_binding.specs.BindErrors.{IsCauseOrMemory}
-use Rattle.mysql_binding.specs.FirstCause.{Cause}
 use Rattle.mysql_binding.specs.Replaced.{with_literal_tokens}
 use Rattle.mysql_steady_text.specs.BothModesText.{IsTextInBothModes}
-use Rattle.mysql_steady_text.specs.declared.both_modes_error.BothModesError.{BothModesError}
-use Rattle.mysql_steady_text.specs.declared.both_modes_error.BothModesError.TheVariants.{Bind}
 
 -- the text, for both modes and any server, of a query with these tokens, wide names among them
 pub record IsWideTextInBothModes (ts : List Token) (given : Given) (text : List ℕ) : Type 0 where
@@ -20,8 +16,3 @@ pub record IsWideTextInBothModes (ts : List Token) (given : Given) (text : List 
   -- the query with its names in lower case is portable, and so is the text.
   pub portable : IsPortable (lower_names ts)
   pub portable_text : IsPortable (with_literal_tokens ts text_in_both_modes.literal_tokens)
-
--- the error is one of binding: this first cause, or out of memory
-abbrev pub IsBothModesBindRefusal : Option Cause → BothModesError → Type 0
-IsBothModesBindRefusal cause (Bind error) = IsCauseOrMemory cause error
-IsBothModesBindRefusal cause error = ⊥

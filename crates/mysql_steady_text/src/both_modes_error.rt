@@ -1,14 +1,9 @@
 //! Why a query and parameters give no text for both modes.
-ghost use Rattle.std.specs.Prelude.{◌≡◌};
-ghost use Rattle.mysql_steady_text.specs.QueryRefusal.{both_modes_error};
-
-use crate::purpose::QueryRefusal;
 use mysql_binding::BindError;
 use mysql_portable::portable::Unportable;
 use thiserror::Error;
 
-/// Why [`bind_text_in_both_modes`](crate::bind_text_in_both_modes) gave no text: the first cause,
-/// in this order.
+/// Why `bind_text_in_both_modes` gave no text: the first cause, in this order.
 #[derive(Debug, PartialEq, Drop, Error)]
 pub enum BothModesError {
     /// A string of the query holds a backslash; the first is reported.
@@ -20,7 +15,7 @@ pub enum BothModesError {
     /// The query isn't portable; the first construct is reported.
     #[error("Not portable at byte {} of the query: {}", .0.at, .0.construct)]
     Unportable(Unportable),
-    /// A cause of [`bind_text`](mysql_binding::bind_text), or out of memory.
+    /// A cause of `bind_text`, or out of memory.
     #[error(transparent)]
     Bind(BindError),
 }
@@ -33,16 +28,5 @@ impl From<BindError> for BothModesError {
 
     fn from(error: BindError) -> BothModesError {
         BothModesError::Bind(error)
-    }
-}
-
-/// The error for a query that is refused in either mode, so never for a byte that isn't steady.
-pub(crate) fn both_modes_error(refusal: QueryRefusal) -> BothModesError
-    ensures { result ≡ both_modes_error refusal }
-{
-    match refusal {
-        QueryRefusal::Unsteady { at } => BothModesError::Backslash { at },
-        QueryRefusal::Backslash { at } => BothModesError::Backslash { at },
-        QueryRefusal::Unportable(found) => BothModesError::Unportable(found),
     }
 }

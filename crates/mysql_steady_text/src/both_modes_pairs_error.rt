@@ -2,7 +2,7 @@
 use crate::both_modes_error::BothModesError;
 use thiserror::Error;
 
-/// Why [`bind_pairs_in_both_modes`](crate::bind_pairs_in_both_modes) gave no text.
+/// Why `bind_pairs_in_both_modes` gave no text.
 ///
 /// For at most 64 pairs it is the first cause, in this order. For more, out of memory may come
 /// before a name that is given twice.
@@ -14,7 +14,7 @@ pub enum BothModesPairsError {
         /// Its number among the pairs, from 0.
         index: usize,
     },
-    /// A cause of [`bind_text_in_both_modes`](crate::bind_text_in_both_modes), or out of memory.
+    /// A cause of `bind_text_in_both_modes`, or out of memory.
     #[error(transparent)]
     Bind(BothModesError),
 }

@@ -28,8 +28,7 @@ use std::alloc::Global;
 ///   128 on begins a second string, `'é' '\\'`, which a server joins to the first.
 /// - Without backslash escapes a text with a backslash is written as `_utf8mb4 0x5C`.
 /// - Bytes that aren't UTF-8 are written as `0xFF`.
-/// - Numbers, `NULL`, dates and times are written as [`bind_text`](mysql_binding::bind_text) writes
-///   them.
+/// - Numbers, `NULL`, dates and times are written as `bind_text` writes them.
 ///
 /// The mode decides only what a text with a backslash says: in the other mode it may have each
 /// backslash doubled. The character set decides what a text with a byte from 128 on says.
@@ -37,7 +36,7 @@ use std::alloc::Global;
 /// After `SHOW .. LIKE`, `SEPARATOR` and the like a server takes one string only, and neither two
 /// strings nor hexadecimal digits.
 ///
-/// It refuses as [`bind_text_in_any_mode`](crate::bind_text_in_any_mode).
+/// It refuses as `bind_text_in_any_mode`.
 // A query has one token list in each mode (`mysql_named_params::laws::one_token_list`), and a
 // steady one the same in both (`steady_texts`), so the clauses speak of the same `ts`.
 pub fn bind_text_guarded(

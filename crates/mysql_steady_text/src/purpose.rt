@@ -45,8 +45,9 @@ pub struct Purpose {
     pub scope: Scope,
     /// The programs that read it the same.
     pub portability: Portability,
-    /// Whether the query is read by wide names, as
-    /// [`bind_wide_in`](mysql_binding::bind_wide_in) reads it, or by those of the grammar.
+    /// Whether the query is read by wide names
+    /// ([`Reading`](mysql_named_params::places::Reading)), or by those of the grammar. By wide
+    /// names, portability is asked of the query with its names in lower case.
     pub wide_names: bool,
 }
 

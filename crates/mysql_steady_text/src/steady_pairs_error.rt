@@ -2,8 +2,7 @@
 use crate::steady_text_error::SteadyTextError;
 use thiserror::Error;
 
-/// Why [`bind_pairs_anywhere`](crate::bind_pairs_anywhere) or
-/// [`bind_pairs_in_any_mode`](crate::bind_pairs_in_any_mode) gave no text.
+/// Why `bind_pairs_anywhere` or `bind_pairs_in_any_mode` gave no text.
 ///
 /// For at most 64 pairs it is the first cause, in this order. For more, out of memory may come
 /// before a name that is given twice.
@@ -15,8 +14,7 @@ pub enum SteadyPairsError {
         /// Its number among the pairs, from 0.
         index: usize,
     },
-    /// A cause of [`bind_text_anywhere`](crate::bind_text_anywhere) or
-    /// [`bind_text_in_any_mode`](crate::bind_text_in_any_mode), or out of memory.
+    /// A cause of `bind_text_anywhere` or `bind_text_in_any_mode`, or out of memory.
     #[error(transparent)]
     Bind(SteadyTextError),
 }

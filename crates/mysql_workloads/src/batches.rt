@@ -2,7 +2,8 @@
 use crate::digest::Digest;
 use crate::pools::Pools;
 use crate::random::Random;
-use mysql_fragments::{Fragment, Fragments, Item, bind_fragments, bind_fragments_anywhere};
+use mysql_fragments::{Fragment, Fragments, Item};
+use mysql_params::fragments::{bind_fragments, bind_fragments_anywhere};
 use mysql_values::value::Value;
 use std::alloc::{AllocError, Global};
 

@@ -10,8 +10,8 @@ ghost use Rattle.mysql_bind_core.specs.declared.group_form.GroupForm as group;
 /// begins with one group at most, which has one text (`one`). So a script gets the same bytes for
 /// the same number of groups (`same`), and for all records of a table (`all`).
 ///
-/// The text of a double isn't pinned: `1.0e0` and `1.0000000000000001e0` read as the same double.
-/// With one text two rows may fit, and with the other they don't.
+/// A double has one text too (`mysql_float_literal::laws::one_double_text`). This law doesn't use
+/// it yet, so it says nothing of a form that writes doubles.
 pub fn groups_are_unique()
     ensures one { (query : RequestedQuery) (form : group.GroupForm) (text : List ℕ)
         (records others : List Fields) (rest behind written bytes : List ℕ) →

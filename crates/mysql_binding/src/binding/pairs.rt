@@ -1,4 +1,4 @@
-//! Binding with borrowed names and values.
+//! Binding with borrowed names and values, into a room of the caller.
 ghost use Rattle.std.specs.Prelude.{◌≡◌, ℕ, List, None, Ok, map, IfErr, IfOk, IfSome, IsErrOf, OnErr};
 ghost use Rattle.mysql_named_params.specs.Tokens.{OnTokens};
 ghost use Rattle.mysql_named_params.specs.Reading.{OnTokensIn};
@@ -9,7 +9,6 @@ ghost use Rattle.mysql_params_core.specs.GivenBorrowed.{pair_map};
 ghost use Rattle.mysql_params_core.specs.Made.{pairs_made, seen_pair};
 ghost use Rattle.mysql_values.specs.BorrowedValue.{owned_values};
 ghost use Rattle.mysql_binding.specs.BindErrors.{IsCauseOrMemory};
-ghost use Rattle.mysql_binding.specs.BoundAgain.{IsSameBoundAgain, IsSameByPosition};
 ghost use Rattle.mysql_binding.specs.BoundPairs.{IfFewPairs, IsPairsRefusal, IsPairsRefusalIn, OfPairs};
 ghost use Rattle.mysql_binding.specs.FirstCause.{first_cause};
 ghost use Rattle.mysql_binding.specs.Isolation.{IsBoundText};
@@ -20,77 +19,15 @@ use crate::bind_pairs_error::BindPairsError;
 use crate::binding::form::PlainForm;
 use crate::binding::room::{TextInRoom, bind_surveyed_into};
 use crate::binding::survey::SurveyedQuery;
-use crate::binding::{KEPT_PLACES, NO_PLACE, bind_borrowed_in};
+use crate::binding::{KEPT_PLACES, NO_PLACE};
 use mysql_named_params::places::Reading;
 use mysql_params_core::params::{BorrowedParams, NamedPairs};
 use mysql_values::value::ValueRef;
 use std::alloc::Global;
 
-/// [`bind_text_in`](crate::bind_text_in) with named parameters that are borrowed, in pairs. No name
-/// and no value is copied. Up to 64 pairs are compared and searched one by one, without memory. For
-/// more pairs a sorted map is made.
-///
-/// A name that is given twice is refused first. Then come the causes of
-/// [`bind_text_in`](crate::bind_text_in), in its order. For more than 64 pairs, out of memory can
-/// come before all of them.
-pub fn bind_pairs(
-    alloc: Global,
-    query: &[u8],
-    pairs: &[(&[u8], ValueRef<'_>)],
-    no_backslash_escape: bool,
-) -> Result<Vec<u8>, BindPairsError>
-    ensures bound { IfOk result (λ text. OfPairs pairs.now (λ given.
-        OnTokens no_backslash_escape query.now (λ ts.
-        IsBoundText no_backslash_escape ts given text.items))) }
-    ensures refused { IfErr result (IsPairsRefusal no_backslash_escape query.now pairs.now) }
-    ensures bound_again { IfOk result (λ text. IsSameBoundAgain no_backslash_escape text.items) }
-    ensures by_position { IfOk result (λ text. OfPairs pairs.now (λ given.
-        OnTokens no_backslash_escape query.now (λ ts.
-        IsSameByPosition no_backslash_escape ts given text.items))) }
-
-    // A query with both a name and a mark is refused without allocating, if there are at most 64
-    // pairs and no name is given twice.
-    ensures mixed { IfFewPairs pairs.now (λ given. OnTokens no_backslash_escape query.now (λ ts.
-        HasName ts × HasMark ts → IsErrOf result (BindPairsError.Bind BindError.Mixed))) }
-{
-    let reading = Reading {
-        no_backslash_escape,
-        wide_names: false,
-    };
-    bind_pairs_in(alloc, query, pairs, reading)
-}
-
-/// [`bind_text_in`](crate::bind_text_in) with borrowed values by position. No value is copied. It
-/// is refused for the same causes.
-pub fn bind_values(
-    alloc: Global,
-    query: &[u8],
-    values: &[ValueRef<'_>],
-    no_backslash_escape: bool,
-) -> Result<Vec<u8>, BindError>
-    ensures bound { OnTokens no_backslash_escape query.now (λ ts. IfOk result (λ text.
-        IsBoundText no_backslash_escape ts (positional (owned_values values.now)) text.items)) }
-    ensures refused { OnTokens no_backslash_escape query.now (λ ts. IfErr result
-        (IsCauseOrMemory (first_cause ts (positional (owned_values values.now))))) }
-    ensures bound_again { IfOk result (λ text. IsSameBoundAgain no_backslash_escape text.items) }
-    ensures by_position { OnTokens no_backslash_escape query.now (λ ts. IfOk result (λ text.
-        IsSameByPosition no_backslash_escape ts (positional (owned_values values.now))
-        text.items)) }
-
-    // A query with a name and a mark is refused without allocating.
-    ensures mixed { OnTokens no_backslash_escape query.now (λ ts.
-        HasName ts × HasMark ts → IsErrOf result BindError.Mixed) }
-{
-    let reading = Reading {
-        no_backslash_escape,
-        wide_names: false,
-    };
-    bind_borrowed_in(alloc, query, BorrowedParams::Values(values), reading)
-}
-
-/// [`bind_pairs`] into `room`: writes the text to its front, without allocating a vector for it. If
-/// `room` is too short, the length of the text is returned. All causes of [`bind_pairs`] are
-/// refused first. After a refusal `room` is unchanged.
+/// `bind_pairs` into `room`: writes the text to its front, without allocating a vector for it. If
+/// `room` is too short, the length of the text is returned. All causes of `bind_pairs` are refused
+/// first. After a refusal `room` is unchanged.
 pub fn bind_pairs_into(
     alloc: Global,
     query: &[u8],
@@ -114,9 +51,9 @@ pub fn bind_pairs_into(
     bind_pairs_into_in(alloc, query, pairs, reading, room)
 }
 
-/// [`bind_values`] into `room`: writes the text to its front, without allocating a vector for it.
-/// If `room` is too short, the length of the text is returned. All causes of [`bind_values`] are
-/// refused first. After a refusal `room` is unchanged.
+/// `bind_values` into `room`: writes the text to its front, without allocating a vector for it. If
+/// `room` is too short, the length of the text is returned. All causes of `bind_values` are refused
+/// first. After a refusal `room` is unchanged.
 pub fn bind_values_into(
     alloc: Global,
     query: &[u8],
@@ -139,33 +76,6 @@ pub fn bind_values_into(
         wide_names: false,
     };
     bind_values_into_in(alloc, query, values, reading, room)
-}
-
-/// [`bind_pairs`] of a query in any reading. For the crates above.
-pub fn bind_pairs_in(
-    alloc: Global,
-    query: &[u8],
-    pairs: &[(&[u8], ValueRef<'_>)],
-    reading: Reading,
-) -> Result<Vec<u8>, BindPairsError>
-    ensures bound { IfOk result (λ text. OfPairs pairs.now (λ given.
-        OnTokensIn reading query.now (λ ts.
-        IsBoundText reading.no_backslash_escape ts given text.items))) }
-    ensures refused { IfErr result (IsPairsRefusalIn reading query.now pairs.now) }
-    ensures bound_again { IfOk result (λ text.
-        IsSameBoundAgain reading.no_backslash_escape text.items) }
-    ensures by_position { IfOk result (λ text. OfPairs pairs.now (λ given.
-        OnTokensIn reading query.now (λ ts.
-        IsSameByPosition reading.no_backslash_escape ts given text.items))) }
-    ensures mixed { IfFewPairs pairs.now (λ given. OnTokensIn reading query.now (λ ts.
-        HasName ts × HasMark ts → IsErrOf result (BindPairsError.Bind BindError.Mixed))) }
-{
-    let named = NamedPairs(pairs);
-    if let Some(error) = pairs_refusal(alloc, &named) {
-        return Err(error);
-    }
-    let params = BorrowedParams::Pairs(&named);
-    Ok(bind_borrowed_in(alloc, query, params, reading)?)
 }
 
 /// [`bind_pairs_into`] of a query in any reading. For the crates above.

@@ -57,9 +57,8 @@ impl<'q> Model for ParsedQuery<'q> {
 }
 
 impl<'q> ParsedQuery<'q> {
-    /// Finds the names and marks of a query in the mode `no_backslash_escape`, like
-    /// [`bind_text_in`](crate::bind_text_in). It allocates 24 bytes for each name or mark, and
-    /// nothing if there are none.
+    /// Finds the names and marks of a query in the mode `no_backslash_escape`, like `bind_text_in`.
+    /// It allocates 24 bytes for each name or mark, and nothing if there are none.
     pub fn parse_in(
         alloc: Global,
         query: &'q [u8],
@@ -113,8 +112,8 @@ impl<'q> ParsedQuery<'q> {
         Ok(ParsedQuery { found })
     }
 
-    /// Binds parameters to the query, exactly like [`bind_text_in`](crate::bind_text_in) in this
-    /// mode. The query isn't walked again.
+    /// Binds parameters to the query, exactly like `bind_text_in` in this mode. The query isn't
+    /// walked again.
     pub fn bind(&self, alloc: Global, params: Params) -> Result<Vec<u8>, BindError>
         ensures bound { OnTokens self.now.mode self.now.query (λ ts. IfOk result (λ text.
             IsBoundText self.now.mode ts (given params) text.items)) }

@@ -29,7 +29,7 @@ use std::alloc::{AllocError, Global};
 use std::marker::Model;
 
 /// A query whose places, with wide names, are found once, to be bound many times: a
-/// [`ParsedQuery`](crate::ParsedQuery) that is read as in [`bind_wide_in`](crate::bind_wide_in).
+/// [`ParsedQuery`](crate::ParsedQuery) that is read by wide names.
 ///
 /// It borrows the query or owns it ([`into_owned`](WideQuery::into_owned)). Binding changes nothing
 /// in it, so many threads can bind it at once.
@@ -54,9 +54,8 @@ impl<'q> Model for WideQuery<'q> {
 }
 
 impl<'q> WideQuery<'q> {
-    /// Finds the names and marks of a query in the mode `no_backslash_escape`, like
-    /// [`bind_wide_in`](crate::bind_wide_in). It allocates 24 bytes for each name or mark, and
-    /// nothing if there are none.
+    /// Finds the names and marks of a query in the mode `no_backslash_escape`. It allocates 24
+    /// bytes for each name or mark, and nothing if there are none.
     pub fn parse_in(
         alloc: Global,
         query: &'q [u8],
@@ -110,8 +109,8 @@ impl<'q> WideQuery<'q> {
         Ok(WideQuery { found })
     }
 
-    /// Binds parameters to the query, exactly like [`bind_wide_in`](crate::bind_wide_in) in this
-    /// mode. The query isn't walked again.
+    /// Binds parameters to the query in this mode, and refuses them for the causes of
+    /// `bind_text_in` in its order. The query isn't walked again.
     pub fn bind(&self, alloc: Global, params: Params) -> Result<Vec<u8>, BindError>
         ensures bound { OnWideTokens self.now.mode self.now.query (λ ts. IfOk result (λ text.
             IsBoundText self.now.mode ts (given params) text.items)) }

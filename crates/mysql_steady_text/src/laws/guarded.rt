@@ -155,9 +155,8 @@ pub fn bound_guarded_texts_on_servers()
 {}
 
 /// No name and no mark is left in a guarded text (`none`). So bound again with no parameters by
-/// [`bind_text`](mysql_binding::bind_text), in either mode, it stays as it is (`same`). The query
-/// with a mark in place of each name, bound to the same values by position, gives the same text
-/// (`by_position`).
+/// `bind_text`, in either mode, it stays as it is (`same`). The query with a mark in place of each
+/// name, bound to the same values by position, gives the same text (`by_position`).
 pub fn bound_guarded_texts()
     ensures none { (mode written : Bool) (ts us : List Token) (given : Given) (text : List ℕ) →
         IsGuardedText written ts given text → IsTokens mode text us → place_count us ≡ 0 }

@@ -6,8 +6,9 @@ use crate::borrowed::rooms::{Bound, room_for, take_room};
 use crate::borrowed::tally::Call;
 use mysql_fragments::{
     Fragment, FragmentRef, Fragments, FragmentsError, Item, RowsRef, bind_borrowed_fragments,
-    bind_borrowed_fragments_into, bind_fragments_in,
+    bind_borrowed_fragments_into,
 };
+use mysql_params::fragments::bind_fragments_in;
 use mysql_values::value::ValueRef;
 use std::alloc::{AllocError, Global};
 

@@ -21,7 +21,7 @@ use std::alloc::Global;
 
 impl<'q> ParsedQuery<'q> {
     /// [`bind`](ParsedQuery::bind) with named parameters that are borrowed, in pairs, exactly like
-    /// [`bind_pairs`](crate::bind_pairs) in this mode. The query isn't walked again.
+    /// `bind_pairs` in this mode. The query isn't walked again.
     pub fn bind_pairs(
         &self,
         alloc: Global,
@@ -49,8 +49,8 @@ impl<'q> ParsedQuery<'q> {
         Ok(bind_surveyed(alloc, &self.surveyed(), BorrowedParams::Pairs(&named))?)
     }
 
-    /// [`bind`](ParsedQuery::bind) with borrowed values by position, exactly like
-    /// [`bind_values`](crate::bind_values) in this mode. The query isn't walked again.
+    /// [`bind`](ParsedQuery::bind) with borrowed values by position, exactly like `bind_values` in
+    /// this mode. The query isn't walked again.
     pub fn bind_values(&self, alloc: Global, values: &[ValueRef<'_>]) -> Result<Vec<u8>, BindError>
         ensures bound { OnTokens self.now.mode self.now.query (λ ts. IfOk result (λ text.
             IsBoundText self.now.mode ts (positional (owned_values values.now)) text.items)) }

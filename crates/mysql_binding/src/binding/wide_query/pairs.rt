@@ -20,8 +20,8 @@ use mysql_values::value::ValueRef;
 use std::alloc::Global;
 
 impl<'q> WideQuery<'q> {
-    /// [`bind`](WideQuery::bind) with named parameters that are borrowed, in pairs, exactly like
-    /// [`bind_wide_pairs`](crate::bind_wide_pairs) in this mode. The query isn't walked again.
+    /// [`bind`](WideQuery::bind) with named parameters that are borrowed, in pairs. They are taken
+    /// and refused as by `bind_pairs`. The query isn't walked again.
     pub fn bind_pairs(
         &self,
         alloc: Global,
@@ -50,8 +50,7 @@ impl<'q> WideQuery<'q> {
         Ok(bind_surveyed(alloc, &self.surveyed(), BorrowedParams::Pairs(&named))?)
     }
 
-    /// [`bind`](WideQuery::bind) with borrowed values by position, exactly like
-    /// [`bind_wide_values`](crate::bind_wide_values) in this mode. The query isn't walked again.
+    /// [`bind`](WideQuery::bind) with borrowed values by position. The query isn't walked again.
     pub fn bind_values(&self, alloc: Global, values: &[ValueRef<'_>]) -> Result<Vec<u8>, BindError>
         ensures bound { OnWideTokens self.now.mode self.now.query (λ ts. IfOk result (λ text.
             IsBoundText self.now.mode ts (positional (owned_values values.now)) text.items)) }

@@ -1,0 +1,62 @@
+use Rattle.std.specs.Prelude.{false, true, None, Some, Err, IfErr, IfOk}
+use Rattle.std.proofs.Common.{ap, refl, sym, inl, inr, ◌∙◌}
+use Rattle.mysql_binding.specs.declared.bind_error.BindError.TheVariants as bind
+use Rattle.mysql_steady_text.specs.declared.purpose.QueryRefusal.TheVariants.{Backslash, Unportable}
+use Rattle.mysql_steady_text.proofs.BothModesAgainLemmas as modes
+use Rattle.mysql_bind_call.specs.AnyGiven.{values}
+use Rattle.mysql_bind_call.specs.Errors.{with_error}
+use Rattle.mysql_bind_call.specs.InstanceErrors.{both_modes_pairs_error}
+use Rattle.mysql_bind_call.specs.declared.refusal.BindRefusal.TheVariants.{Query, Values}
+use Rattle.mysql_bind_call.proofs.AgainLemmas.{both_text_positioned}
+use Rattle.mysql_bind_call.proofs.InstanceLemmas.{backslash_early, either_construct, either_mixed, low_construct}
+use Rattle.mysql_bind_call.proofs.PairInstanceLemmas.{both_refused, pairs_both_bound}
+use Rattle.mysql_bind_call.proofs.ResultLemmas.{ok_to}
+use Rattle.mysql_bind_call.proofs.instances.pairs.bind_pairs_in_both_modes.Goals as goal
+
+pub returns-clause-bound : goal.returns-clause-bound
+returns-clause-bound c = rw c.pairs_for_both_modes.ensures (pairs_both_bound (λ text. text.items) c.args.query.now c.args.pairs.now both_modes_pairs_error c.bind.result c.bind.ensures.bound c.bind.ensures.accepted)
+
+pub returns-clause-refused : goal.returns-clause-refused
+returns-clause-refused c =
+    rw c.pairs_for_both_modes.ensures (both_refused (λ text. text.items) c.args.query.now c.args.pairs.now c.bind.result c.bind.ensures.refused)
+
+pub returns-clause-bound_again : goal.returns-clause-bound_again
+returns-clause-bound_again c =
+    rw c.pairs_for_both_modes.ensures (
+    ok_to _ _ (with_error both_modes_pairs_error c.bind.result) (λ text o. let t = o.2 true in modes.again_of t.0 o.0 text.items t.2.text_in_both_modes)
+    (pairs_both_bound (λ text. text.items) c.args.query.now c.args.pairs.now both_modes_pairs_error c.bind.result c.bind.ensures.bound c.bind.ensures.accepted))
+
+pub returns-clause-by_position : goal.returns-clause-by_position
+returns-clause-by_position c =
+    rw c.pairs_for_both_modes.ensures (
+    ok_to _ _ (with_error both_modes_pairs_error c.bind.result) (λ text o. (o.0, o.1, λ mode. let t = o.2 mode in (t.0, t.1, both_text_positioned false mode c.args.query.now o.0 text.items t.0 t.1 t.2.text_in_both_modes)))
+    (pairs_both_bound (λ text. text.items) c.args.query.now c.args.pairs.now both_modes_pairs_error c.bind.result c.bind.ensures.bound c.bind.ensures.accepted))
+
+pub returns-clause-backslash : goal.returns-clause-backslash
+returns-clause-backslash c few given is mode =
+    let o = c.bind.ensures.early few (values given) is mode in
+    rw c.pairs_for_both_modes.ensures (
+      o.0,
+      o.1,
+      λ at first. ap (with_error both_modes_pairs_error) (o.2 (Query (Backslash at)) (backslash_early c.args.query.now o.0 (values given) at first)),
+    )
+
+pub returns-clause-unportable : goal.returns-clause-unportable
+returns-clause-unportable c few given is mode =
+    let o = c.bind.ensures.early few (values given) is mode in
+    rw c.pairs_for_both_modes.ensures (
+      o.0,
+      o.1,
+      λ free found first.
+          ap (with_error both_modes_pairs_error) (o.2 (Query (Unportable found)) (either_construct c.args.query.now o.0 (values given) free found (low_construct mode c.args.query.now o.0 o.1 (Some found) first))),
+    )
+
+pub returns-clause-mixed : goal.returns-clause-mixed
+returns-clause-mixed c few given is mode =
+    let o = c.bind.ensures.early few (values given) is mode in
+    rw c.pairs_for_both_modes.ensures (
+      o.0,
+      o.1,
+      λ free none names.
+          ap (with_error both_modes_pairs_error) (o.2 (Values bind.Mixed) (either_mixed c.args.query.now o.0 (values given) free (low_construct mode c.args.query.now o.0 o.1 None none) names)),
+    )

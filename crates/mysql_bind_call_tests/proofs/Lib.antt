@@ -1,4 +1,0 @@
-pub mod AgainLemmas
-pub mod InstanceLemmas
-pub mod PairInstanceLemmas
-pub mod FragmentInstanceLemmas
