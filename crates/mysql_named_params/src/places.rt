@@ -56,7 +56,8 @@ pub struct Reading {
     /// names and comments begins a wide name, whatever comes before it.
     ///
     /// So `x::Text` and `lbl:LOOP` are refused as places that don't stand alone, and are left as
-    /// they are without wide names. A query whose names have no capitals gives the same text.
+    /// they are without wide names. A query whose names have no capitals gives the same text either
+    /// way.
     pub wide_names: bool,
 }
 

@@ -54,7 +54,7 @@ impl<'q> Model for WideQuery<'q> {
 }
 
 impl<'q> WideQuery<'q> {
-    /// Finds the names and marks of a query in the mode `no_backslash_escape`. It allocates 24
+    /// Finds the wide names and marks of a query in the mode `no_backslash_escape`. It allocates 24
     /// bytes for each name or mark, and nothing if there are none.
     pub fn parse_in(
         alloc: Global,
@@ -109,8 +109,8 @@ impl<'q> WideQuery<'q> {
         Ok(WideQuery { found })
     }
 
-    /// Binds parameters to the query in this mode, and refuses them for the causes of
-    /// `bind_text_in` in its order. The query isn't walked again.
+    /// Binds parameters to the query by wide names in this mode. It refuses them for the causes of
+    /// `bind_text_in`, in their order. The query isn't walked again.
     pub fn bind(&self, alloc: Global, params: Params) -> Result<Vec<u8>, BindError>
         ensures bound { OnWideTokens self.now.mode self.now.query (λ ts. IfOk result (λ text.
             IsBoundText self.now.mode ts (given params) text.items)) }
