@@ -177,6 +177,7 @@ pub use mysql_params::laws::steady_texts;
 pub use mysql_params::laws::steady_texts_are_sent;
 pub use mysql_params::laws::steady_texts_in_clients;
 pub use mysql_params::laws::steady_texts_on_servers;
+pub use mysql_params::laws::texts_by_position;
 pub use mysql_params::laws::texts_of_portable_queries;
 pub use mysql_params::laws::to_params_error_equality;
 pub use mysql_params::laws::tokens_exist;

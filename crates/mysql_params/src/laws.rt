@@ -1,7 +1,7 @@
 //! Laws of the definitions that the contracts cite, and of equality, of all crates below,
 //! re-exported by name. A program calls one only for its clauses, if a proof needs them.
 
-pub use mysql_bind_call::laws::{accepted_queries, texts_of_portable_queries};
+pub use mysql_bind_call::laws::{accepted_queries, texts_by_position, texts_of_portable_queries};
 pub use mysql_binding::laws::{
     bind_error_equality, bind_pairs_error_equality, bound_again_is_the_same, bound_texts_are_sent,
     bound_texts_in_clients, bound_texts_on_servers, by_position_is_the_same,
