@@ -1,6 +1,7 @@
 pub mod ScopeLemmas
 pub mod ResultLemmas
 pub mod ValueLemmas
+pub mod EndLemmas
 pub mod FragmentLemmas
 pub mod AgainLemmas
 pub mod InstanceLemmas

@@ -1,5 +1,6 @@
 pub mod Accepted
 pub mod AnyGiven
+pub mod GivenBy
 pub mod FragmentsInBothModes
 pub mod BoundTexts
 pub mod Refusals

@@ -9,7 +9,7 @@ use mysql_steady_text::purpose::QueryRefusal;
 
 /// The result of binding values, with the refusal for its error.
 #[inline(always)]
-pub(crate) fn of_values(bound: Result<Vec<u8>, BindError>) -> Result<Vec<u8>, BindRefusal>
+pub(crate) fn of_values<T>(bound: Result<T, BindError>) -> Result<T, BindRefusal>
     ensures { result ≡ with_error of_bind_error bound }
 {
     Ok(bound?)

@@ -16,6 +16,7 @@ ghost use Rattle.mysql_bind_call.specs.Refusals.{IsCauseOrMemory, mixed_refusal}
 ghost use Rattle.mysql_bind_call.specs.declared.refusal.BindRefusal as said;
 
 use crate::errors::{of_fragments, of_steady};
+use crate::given::BorrowedGiven;
 use crate::refusal::BindRefusal;
 use crate::values::GiveValues;
 use mysql_fragments::{
@@ -42,18 +43,13 @@ impl GiveValues for Fragments {
     }
 
     #[inline(always)]
-    fn text_for(
-        &self,
-        alloc: Global,
-        query: &[u8],
-        purpose: Purpose,
-    ) -> Result<Vec<u8>, BindRefusal> {
-        bind_list(alloc, query, self, purpose)
+    fn given(&self) -> BorrowedGiven<'_, '_> {
+        BorrowedGiven::Fragments(self)
     }
 }
 
-// The text of a query that is accepted for the purpose.
-fn bind_list(
+/// The text of a query that is accepted for the purpose.
+pub(crate) fn bind_list(
     alloc: Global,
     query: &[u8],
     list: &Fragments,

@@ -7,8 +7,10 @@
 
 mod appended;
 mod borrowed_values;
+mod ends;
 mod errors;
 mod fragments;
+mod given;
 mod instances;
 pub mod laws;
 mod one_call;
@@ -17,6 +19,7 @@ mod room;
 mod values;
 
 pub use appended::append;
+pub use given::BorrowedGiven;
 pub use instances::{
     bind_fragments, bind_fragments_anywhere, bind_fragments_in, bind_fragments_in_any_mode,
     bind_pairs, bind_pairs_anywhere, bind_pairs_in_any_mode, bind_pairs_in_both_modes, bind_text,

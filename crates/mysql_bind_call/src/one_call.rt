@@ -1,11 +1,15 @@
 //! The one call that binds.
-ghost use Rattle.std.specs.Prelude.{◌≡◌, ◌⊎◌, Some, IfErr, IfOk, IsErrOf};
+ghost use Rattle.std.specs.Prelude.{◌≡◌, ◌⊎◌, None, Some, IfErr, IfOk, IfSome, IsErrOf};
 ghost use Rattle.mysql_bind_call.specs.AnyGiven.{AnyGiven};
 ghost use Rattle.mysql_bind_call.specs.BoundTexts.{IsTextFor};
-ghost use Rattle.mysql_bind_call.specs.Refusals.{IsRefusalFor, early_refusal};
+ghost use Rattle.mysql_bind_call.specs.GivenBy.{IsGivenBy};
+ghost use Rattle.mysql_bind_call.specs.Refusals.{IsCauseOrMemory, IsRefusalFor, early_refusal, mixed_refusal};
 ghost use Rattle.mysql_bind_call.specs.Accepted.{IsAccepted, OnQuery};
 ghost use Rattle.mysql_bind_call.specs.declared.refusal.BindRefusal as said;
 
+use crate::borrowed_values::bind_borrowed;
+use crate::fragments::bind_list;
+use crate::given::BorrowedGiven;
 use crate::refusal::BindRefusal;
 use crate::values::GiveValues;
 use mysql_steady_text::purpose::{Purpose, query_refusal};
@@ -47,11 +51,58 @@ pub fn bind<V: GiveValues>(
         V.Gives values.now given → OnQuery purpose query.now (λ ts. (refusal : said.BindRefusal) →
         early_refusal purpose query.now ts given ≡ Some refusal → IsErrOf result refusal) }
 {
+    match refusal_before(alloc, query, values, purpose) {
+        Some(refusal) => Err(refusal),
+        None => text_of(alloc, query, values.given(), purpose),
+    }
+}
+
+/// The refusal before any place is looked at: what is given can't be given to any query, or the
+/// query is refused for the purpose.
+#[inline(always)]
+pub(crate) fn refusal_before<V: GiveValues>(
+    alloc: Global,
+    query: &[u8],
+    values: &V,
+    purpose: Purpose,
+) -> Option<BindRefusal>
+    ensures made { result ≡ None → V.AreMade values.now }
+    ensures accepted { result ≡ None → IsAccepted purpose query.now }
+    ensures refused { IfSome result (λ refusal. V.IsOwnRefusal values.now refusal
+        ⊎ (V.AreMade values.now × ((given : AnyGiven) → V.Gives values.now given →
+        OnQuery purpose query.now (λ ts. IsRefusalFor purpose query.now ts given refusal)))) }
+    ensures early { IfSome result (λ told. V.NeedNoMemory values.now → (given : AnyGiven) →
+        V.Gives values.now given → OnQuery purpose query.now (λ ts. (refusal : said.BindRefusal) →
+        early_refusal purpose query.now ts given ≡ Some refusal → told ≡ refusal)) }
+{
     if let Some(refusal) = values.own_refusal(alloc) {
-        return Err(refusal);
+        return Some(refusal);
     }
-    if let Some(why) = query_refusal(query, purpose) {
-        return Err(BindRefusal::Query(why));
+    match query_refusal(query, purpose) {
+        Some(why) => Some(BindRefusal::Query(why)),
+        None => None,
     }
-    values.text_for(alloc, query, purpose)
+}
+
+// The text of a query that is accepted for the purpose.
+#[inline(always)]
+fn text_of(
+    alloc: Global,
+    query: &[u8],
+    given: BorrowedGiven<'_, '_>,
+    purpose: Purpose,
+) -> Result<Vec<u8>, BindRefusal>
+    requires accepted { IsAccepted purpose query.now }
+    ensures bound { IfOk result (λ text. (what : AnyGiven) → IsGivenBy given.entry what →
+        OnQuery purpose query.now (λ ts. IsTextFor purpose.scope ts what text.items)) }
+    ensures refused { IfErr result (λ refusal. (what : AnyGiven) → IsGivenBy given.entry what →
+        OnQuery purpose query.now (λ ts. IsCauseOrMemory purpose.scope ts what refusal)) }
+    ensures mixed { (what : AnyGiven) → IsGivenBy given.entry what →
+        OnQuery purpose query.now (λ ts. (refusal : said.BindRefusal) →
+        mixed_refusal ts what ≡ Some refusal → IsErrOf result refusal) }
+{
+    match given {
+        BorrowedGiven::Values(params) => bind_borrowed(alloc, query, params, purpose),
+        BorrowedGiven::Fragments(list) => bind_list(alloc, query, list, purpose),
+    }
 }

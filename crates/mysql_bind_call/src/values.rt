@@ -1,20 +1,16 @@
 //! All that can be given to the places of a query.
-ghost use Rattle.std.specs.Prelude.{◌≡◌, ◌≤◌, None, Ok, Some, IfErr, IfOk, IfSome, IsErrOf, length, map, ⊤};
-ghost use Rattle.mysql_params_core.specs.Given.{Given, given, named, positional, value_map};
-ghost use Rattle.mysql_params_core.specs.GivenBorrowed.{given_by_borrowed, pair_map};
-ghost use Rattle.mysql_params_core.specs.Made.{few_pairs, pairs_made, seen_pair};
+ghost use Rattle.std.specs.Prelude.{◌≡◌, ◌≤◌, None, IfSome, length, ⊤};
+ghost use Rattle.mysql_params_core.specs.Given.{given, named, positional, value_map};
+ghost use Rattle.mysql_params_core.specs.Made.{few_pairs};
 ghost use Rattle.mysql_values.specs.BorrowedValue.{owned_values};
 ghost use Rattle.mysql_bind_call.specs.AnyGiven.{AnyGiven, values};
-ghost use Rattle.mysql_bind_call.specs.BoundTexts.{IsTextFor};
+ghost use Rattle.mysql_bind_call.specs.GivenBy.{IsGivenBy};
 ghost use Rattle.mysql_bind_call.specs.Pairs.{ArePairs, ArePairsMade, IsPairsRefusal};
-ghost use Rattle.mysql_bind_call.specs.Refusals.{IsCauseOrMemory, mixed_refusal};
-ghost use Rattle.mysql_bind_call.specs.Accepted.{IsAccepted, OnQuery};
 ghost use Rattle.mysql_bind_call.specs.declared.refusal.BindRefusal as said;
 
-use crate::borrowed_values::bind_borrowed;
+use crate::given::BorrowedGiven;
 use crate::refusal::BindRefusal;
 use mysql_params_core::params::{BorrowedParams, NamedPairs, Params};
-use mysql_steady_text::purpose::Purpose;
 use mysql_values::value::{Value, ValueRef};
 use std::alloc::Global;
 use std::collections::BTreeMap;
@@ -40,22 +36,10 @@ pub trait GiveValues {
         ensures memory { IfSome result (λ refusal. NeedNoMemory self.now → (given : AnyGiven) →
             Gives self.now given → ⊥) };
 
-    /// The text of a query that is accepted for the purpose.
-    fn text_for(
-        &self,
-        alloc: Global,
-        query: &[u8],
-        purpose: Purpose,
-    ) -> Result<Vec<u8>, BindRefusal>
-        requires made { AreMade self.now }
-        requires accepted { IsAccepted purpose query.now }
-        ensures bound { IfOk result (λ text. (given : AnyGiven) → Gives self.now given →
-            OnQuery purpose query.now (λ ts. IsTextFor purpose.scope ts given text.items)) }
-        ensures refused { IfErr result (λ refusal. (given : AnyGiven) → Gives self.now given →
-            OnQuery purpose query.now (λ ts. IsCauseOrMemory purpose.scope ts given refusal)) }
-        ensures mixed { (given : AnyGiven) → Gives self.now given →
-            OnQuery purpose query.now (λ ts. (refusal : said.BindRefusal) →
-            mixed_refusal ts given ≡ Some refusal → IsErrOf result refusal) };
+    /// What they give, borrowed.
+    fn given(&self) -> BorrowedGiven<'_, '_>
+        requires { AreMade self.now }
+        ensures { (what : AnyGiven) → Gives self.now what → IsGivenBy result what };
 }
 
 impl GiveValues for Params {
@@ -73,13 +57,8 @@ impl GiveValues for Params {
     }
 
     #[inline(always)]
-    fn text_for(
-        &self,
-        alloc: Global,
-        query: &[u8],
-        purpose: Purpose,
-    ) -> Result<Vec<u8>, BindRefusal> {
-        bind_borrowed(alloc, query, self.borrowed(), purpose)
+    fn given(&self) -> BorrowedGiven<'_, '_> {
+        BorrowedGiven::Values(self.borrowed())
     }
 }
 
@@ -102,13 +81,8 @@ impl GiveValues for NamedPairs<'_> {
     }
 
     #[inline(always)]
-    fn text_for(
-        &self,
-        alloc: Global,
-        query: &[u8],
-        purpose: Purpose,
-    ) -> Result<Vec<u8>, BindRefusal> {
-        bind_borrowed(alloc, query, BorrowedParams::Pairs(self), purpose)
+    fn given(&self) -> BorrowedGiven<'_, '_> {
+        BorrowedGiven::Values(BorrowedParams::Pairs(self))
     }
 }
 
@@ -131,13 +105,8 @@ impl GiveValues for ByPosition<'_> {
     }
 
     #[inline(always)]
-    fn text_for(
-        &self,
-        alloc: Global,
-        query: &[u8],
-        purpose: Purpose,
-    ) -> Result<Vec<u8>, BindRefusal> {
-        bind_borrowed(alloc, query, BorrowedParams::Values(self.0), purpose)
+    fn given(&self) -> BorrowedGiven<'_, '_> {
+        BorrowedGiven::Values(BorrowedParams::Values(self.0))
     }
 }
 
@@ -157,12 +126,7 @@ impl GiveValues for BTreeMap<Vec<u8>, Value> {
     }
 
     #[inline(always)]
-    fn text_for(
-        &self,
-        alloc: Global,
-        query: &[u8],
-        purpose: Purpose,
-    ) -> Result<Vec<u8>, BindRefusal> {
-        bind_borrowed(alloc, query, BorrowedParams::Sorted(self), purpose)
+    fn given(&self) -> BorrowedGiven<'_, '_> {
+        BorrowedGiven::Values(BorrowedParams::Sorted(self))
     }
 }

@@ -1,7 +1,8 @@
 //! Texts of fragments for each purpose. The wanted texts are written by the rules of the MySQL
 //! Reference Manual, "String Literals", "Character Set Introducers" and "Schema Object Names".
 use crate::purposes::{BACKSLASHES, NO_BACKSLASHES, PORTABILITIES, purpose};
-use mysql_bind_call::{BindRefusal, Portability, Purpose, Scope, bind};
+use mysql_bind_call::{BindRefusal, Portability, Purpose, Scope, append, bind, bind_into};
+use mysql_binding::TextInRoom;
 use mysql_fragments::{Fragment, Fragments, Item};
 use mysql_values::bytes::Bytes;
 use mysql_values::value::Value;
@@ -71,6 +72,21 @@ fn lists_and_names_for_each_purpose(rt: HostRuntime) {
             );
             assert!(rt; wide);
         }
+    }
+}
+
+#[test]
+fn lists_and_names_in_a_room_and_after_a_text(rt: HostRuntime) {
+    let list = list_and_name(rt.alloc()).expect(&rt, "fragments");
+    for (scope, wanted) in LISTS {
+        let purpose = purpose(*scope, Portability::Any, false);
+        let mut room = [7u8; 64];
+        let told = bind_into(rt.alloc(), b"a IN (?) AND ? = 1", &list, purpose, &mut room);
+        assert!(rt; told == Ok(TextInRoom::Written { len: wanted.len() }));
+        assert_eq!(rt; room.get(..wanted.len()).unwrap_or(&[]), *wanted);
+        let mut text = Vec::new(rt.alloc());
+        append(rt.alloc(), b"a IN (?) AND ? = 1", &list, purpose, &mut text).expect(&rt, "a text");
+        assert_eq!(rt; text.as_slice(), *wanted);
     }
 }
 

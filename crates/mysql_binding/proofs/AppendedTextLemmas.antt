@@ -1,7 +1,8 @@
 -- A text that is written to the end of another one.
-use Rattle.std.specs.Prelude.{Result, Ok, Err, IfErr, IsErrAnd, option_map}
+use Rattle.std.specs.Prelude.{Result, Ok, Err, IfErr, IsErrAnd, OnOk, option_map}
 use Rattle.std.proofs.Common.{◌≡◌, ◌≤◌, ℕ, List, ◌++◌, length, take, drop, take_all, Option, Some, None, refl, sym, ap, ◌∙◌, subst, arith}
 use Rattle.std.proofs.lemmas.List.{take-append-le}
+use Rattle.mysql_values.specs.Literal.{literal_of}
 use Rattle.mysql_values.specs.declared.value.Value.{Value}
 use Rattle.mysql_named_params.specs.Tokens.{Token}
 use Rattle.mysql_named_params.specs.Reading.{OnTokensIn}
@@ -9,12 +10,15 @@ use Rattle.mysql_named_params.specs.declared.places.Reading.{Reading}
 use Rattle.mysql_params_core.specs.Given.{Given}
 use Rattle.mysql_binding.specs.AppendedText.{AreFound}
 use Rattle.mysql_binding.specs.BindErrors.{IsCauseOrMemory, cause_of}
+use Rattle.mysql_binding.specs.BoundPairs.{IsBoundAfterIn}
 use Rattle.mysql_binding.specs.FirstCause.{Cause, later_cause, first_cause}
+use Rattle.mysql_binding.specs.LiteralForm.{IsPlainLiteral}
 use Rattle.mysql_binding.specs.MeasuredText.{IsLookedUp}
 use Rattle.mysql_binding.specs.Survey.{IsSurvey}
+use Rattle.mysql_binding.specs.WrittenText.{IsGivenText}
 use Rattle.mysql_binding.specs.declared.bind_error.BindError.{BindError}
 use Rattle.mysql_binding.specs.declared.binding.survey.Survey.{Survey}
-use Rattle.mysql_binding.proofs.BoundTextLemmas.{cause_after_values}
+use Rattle.mysql_binding.proofs.BoundTextLemmas.{answer_bound, cause_after_values}
 use Rattle.mysql_binding.proofs.CauseLemmas.{on_both, on_map}
 use Rattle.mysql_binding.proofs.MeasuredTextLemmas.{whole_vector}
 
@@ -55,3 +59,10 @@ appended_bytes old resized text more zeros slice at end n k long is start same b
     let front : take at slice ≡ old =
     ap (take at) (same ∙ (longer ∙ ap (λ u. u ++ zeros) all)) ∙ (take-append-le at old zeros (omega (arith, start)) ∙ take_all at old (omega (arith, start))) in
     whole_vector text resized n long ∙ (sym (take_all end text (omega (arith, long, is))) ∙ (filled ∙ ap (λ u. u ++ more) front))
+
+-- the text that is written after another one, with plain literals, is the bound text
+pub bound_after : {A E : Type 0} (reading : Reading) (query : List ℕ) (given : Given) (before after : List ℕ) (r : Result A E) →
+    OnOk r ((more : List ℕ) × (after ≡ before ++ more) × OnTokensIn reading query (λ ts. IsGivenText (literal_of reading.no_backslash_escape) (IsPlainLiteral reading.no_backslash_escape) ts given more)) →
+    OnOk r (IsBoundAfterIn reading query given before after)
+bound_after reading query given before after (Ok done) (more, is, o) = (more, is, answer_bound {E = BindError} (λ (x : List ℕ). x) reading query given (Ok more) o)
+bound_after reading query given before after (Err e) h = tt

@@ -4,10 +4,10 @@ use thiserror::Error;
 
 /// The error of binding borrowed pairs to a query.
 ///
-/// `bind_pairs`, [`bind_pairs_into`](crate::bind_pairs_into), and `bind_pairs` and `append_pairs`
-/// of a [`ParsedQuery`](crate::ParsedQuery) return it. For at most 64 pairs it is the first cause
-/// for which they gave no text, in this order. For more pairs, out of memory can be reported before
-/// a name that is given twice.
+/// `bind_pairs` returns it, and so do `bind_pairs` and `append_pairs` of a
+/// [`ParsedQuery`](crate::ParsedQuery). For at most 64 pairs it is the first cause for which they
+/// gave no text, in this order. For more pairs, out of memory can be reported before a name that is
+/// given twice.
 #[derive(Debug, PartialEq, Drop, Error)]
 pub enum BindPairsError {
     /// A pair has the name of an earlier pair. The first such pair is reported.

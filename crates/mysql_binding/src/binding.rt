@@ -33,7 +33,6 @@ mod spanned;
 mod spans;
 mod survey;
 mod text;
-mod wide;
 mod wide_query;
 
 use crate::bind_error::BindError;
@@ -43,9 +42,6 @@ pub use crate::binding::found::{all_places, place_after};
 use crate::binding::literals::{first_float, with_lengths};
 pub use crate::binding::literals::{MeasuredText, literal_len, push_literal, put_literal};
 pub use crate::binding::names::query_names;
-pub use crate::binding::pairs::{
-    bind_pairs_into, bind_pairs_into_in, bind_values_into, bind_values_into_in,
-};
 pub use crate::binding::parsed_query::ParsedQuery;
 pub use crate::binding::place_values::{LiteralValue, PairValues, PlaceValues};
 pub use crate::binding::room::{TextInRoom, bind_surveyed_into};
@@ -53,8 +49,7 @@ pub use crate::binding::spanned::SpannedQuery;
 pub use crate::binding::spans::{PlaceSpan, bind_spans_into, place_spans};
 pub use crate::binding::survey::{Survey, SurveyedQuery};
 use crate::binding::text::written_text;
-pub use crate::binding::text::{append_piece, append_surveyed, fill_measured};
-pub use crate::binding::wide::{bind_wide_pairs_into, bind_wide_values_into};
+pub use crate::binding::text::{append_piece, append_surveyed, bind_surveyed_after, fill_measured};
 pub use crate::binding::wide_query::WideQuery;
 use mysql_named_params::places::{FoundPlace, PlaceKind, Reading};
 use mysql_params_core::params::{BorrowedParams, place_values};

@@ -15,9 +15,8 @@ pub use bind_pairs_error::BindPairsError;
 pub use binding::{
     KEPT_PLACES, LiteralForm, LiteralValue, MeasuredText, NO_PLACE, PairValues, ParsedQuery,
     PlaceSpan, PlaceValues, PlainForm, SpannedQuery, Survey, SurveyedQuery, TextInRoom, WideQuery,
-    all_places, append_piece, append_surveyed, bind_borrowed_as, bind_pairs_into,
-    bind_pairs_into_in, bind_spans_into, bind_surveyed, bind_surveyed_as, bind_surveyed_into,
-    bind_values_into, bind_values_into_in, bind_wide_pairs_into, bind_wide_values_into,
-    fill_measured, literal_len, measured_text, measured_values, place_after, place_spans,
-    push_literal, put_literal, query_names,
+    all_places, append_piece, append_surveyed, bind_borrowed_as, bind_spans_into, bind_surveyed,
+    bind_surveyed_after, bind_surveyed_as, bind_surveyed_into, fill_measured, literal_len,
+    measured_text, measured_values, place_after, place_spans, push_literal, put_literal,
+    query_names,
 };

@@ -1,11 +1,12 @@
 //! Queries bound from names and values that are borrowed: each call gives the text of the table,
 //! and a name that is given twice is refused before all else.
-use crate::shared::{answer_of, is_text, same_in, says};
+use crate::shared::{answer_of, in_mode, is_text, same_in, says};
+use mysql_params::params::NamedPairs;
 use mysql_params::{
-    BindError, BindPairsError, BothModesError, BothModesPairsError, ParsedQuery, SteadyPairsError,
-    SteadyTextError, TextInRoom, bind_pairs, bind_pairs_anywhere, bind_pairs_in_any_mode,
-    bind_pairs_in_both_modes, bind_pairs_into, bind_values, bind_values_anywhere,
-    bind_values_in_any_mode, bind_values_in_both_modes, bind_values_into,
+    BindError, BindPairsError, BindRefusal, BothModesError, BothModesPairsError, ByPosition,
+    ParsedQuery, SteadyPairsError, SteadyTextError, TextInRoom, bind_into, bind_pairs,
+    bind_pairs_anywhere, bind_pairs_in_any_mode, bind_pairs_in_both_modes, bind_values,
+    bind_values_anywhere, bind_values_in_any_mode, bind_values_in_both_modes,
 };
 use mysql_values::value::ValueRef;
 use std::alloc::Global;
@@ -94,7 +95,9 @@ fn pairs_give(
     answer_of(rt, parsed.append_pairs(alloc, pairs, &mut script));
     is_text(rt, script, wanted);
     let mut room = [7u8; 64];
-    let told = answer_of(rt, bind_pairs_into(alloc, query, pairs, mode, &mut room));
+    let pairs = NamedPairs(pairs);
+    let told = bind_into(alloc, query, &pairs, in_mode(mode), &mut room);
+    let told = answer_of(rt, told);
     stands_in(rt, told, &room, wanted);
 }
 
@@ -118,7 +121,9 @@ fn values_give(
     answer_of(rt, parsed.append_values(alloc, values, &mut script));
     is_text(rt, script, wanted);
     let mut room = [7u8; 64];
-    let told = answer_of(rt, bind_values_into(alloc, query, values, mode, &mut room));
+    let values = ByPosition(values);
+    let told = bind_into(alloc, query, &values, in_mode(mode), &mut room);
+    let told = answer_of(rt, told);
     stands_in(rt, told, &room, wanted);
 }
 
@@ -141,9 +146,9 @@ fn a_script_and_a_short_room(rt: HostRuntime) {
         answer_of(&rt, parsed.append_pairs(rt.alloc(), pairs, &mut script));
     }
     is_text(&rt, script, b"SELECT 1;SELECT 22;");
-    let values = [ValueRef::UInt(22)];
+    let values = ByPosition(&[ValueRef::UInt(22)]);
     let mut room = [7u8; 8];
-    let told = bind_values_into(rt.alloc(), b"SELECT ?", &values, false, &mut room);
+    let told = bind_into(rt.alloc(), b"SELECT ?", &values, in_mode(false), &mut room);
     same_in(
         &rt,
         answer_of(&rt, told),
@@ -158,7 +163,8 @@ fn a_script_and_a_short_room(rt: HostRuntime) {
 fn a_short_room_for_pairs(rt: HostRuntime) {
     let pairs: Pairs<'_> = &[(b"a", ValueRef::Bytes(b"it's"))];
     let mut room = [7u8; 13];
-    let told = bind_pairs_into(rt.alloc(), b"SELECT :a", pairs, false, &mut room);
+    let pairs = NamedPairs(pairs);
+    let told = bind_into(rt.alloc(), b"SELECT :a", &pairs, in_mode(false), &mut room);
     same_in(
         &rt,
         answer_of(&rt, told),
@@ -190,12 +196,13 @@ fn a_name_given_twice(rt: HostRuntime) {
     same_in(&rt, &refused, &wanted.err(), &"append_pairs");
     is_text(&rt, script, b"x");
     let mut room = [7u8; 8];
-    let refused = bind_pairs_into(rt.alloc(), query, TWICE, false, &mut room).err();
+    let twice = NamedPairs(TWICE);
+    let refused = bind_into(rt.alloc(), query, &twice, in_mode(false), &mut room).err();
     same_in(
         &rt,
         &refused,
-        &Some(BindPairsError::Redefined { index: 2 }),
-        &"bind_pairs_into",
+        &Some(BindRefusal::Redefined { index: 2 }),
+        &"bind_into",
     );
     same_in(&rt, room, [7u8; 8], &"a room");
 }

@@ -140,6 +140,14 @@ impl Refused<'_> {
     }
 }
 
+/// For one server in a mode.
+pub(crate) fn in_mode(no_backslash_escape: bool) -> Purpose {
+    Purpose {
+        wide_names: false,
+        ..wide_in(no_backslash_escape)
+    }
+}
+
 /// For one server in a mode, by wide names.
 pub(crate) fn wide_in(no_backslash_escape: bool) -> Purpose {
     Purpose {

@@ -8,8 +8,8 @@ use crate::shared::{
 use mysql_params::params::NamedPairs;
 use mysql_params::{
     BindError, BindRefusal, ByPosition, Construct, Portability, Purpose, QueryRefusal, Reading,
-    Scope, TextInRoom, Unportable, WideQuery, bind, bind_wide_pairs_into, bind_wide_values_into,
-    first_unportable_in, first_unportable_in_client_in,
+    Scope, TextInRoom, Unportable, WideQuery, bind, bind_into, first_unportable_in,
+    first_unportable_in_client_in,
 };
 use mysql_values::value::ValueRef;
 use std::alloc::Global;
@@ -161,7 +161,8 @@ fn borrowed_pairs(rt: HostRuntime) {
     answer_of(&rt, parsed.append_pairs(rt.alloc(), PAIRS, &mut script));
     is_text(&rt, script, wanted);
     let mut room = [7u8; 17];
-    let told = bind_wide_pairs_into(rt.alloc(), query, PAIRS, true, &mut room);
+    let pairs = NamedPairs(PAIRS);
+    let told = bind_into(rt.alloc(), query, &pairs, wide_in(true), &mut room);
     same_in(
         &rt,
         answer_of(&rt, told),
@@ -169,11 +170,15 @@ fn borrowed_pairs(rt: HostRuntime) {
         &"told",
     );
     same_in(&rt, room.as_slice(), wanted, &"a room");
+}
+
+#[test]
+fn name_given_twice(rt: HostRuntime) {
     let twice = &[
         (b"A".as_slice(), ValueRef::NULL),
         (b"A".as_slice(), ValueRef::NULL),
     ];
-    let refused = bind(rt.alloc(), query, &NamedPairs(twice), wide_in(true));
+    let refused = bind(rt.alloc(), b":A", &NamedPairs(twice), wide_in(true));
     same_in(
         &rt,
         refused.err() == Some(BindRefusal::Redefined { index: 1 }),
@@ -197,7 +202,8 @@ fn borrowed_values(rt: HostRuntime) {
     answer_of(&rt, parsed.append_values(rt.alloc(), values, &mut script));
     is_text(&rt, script, b"3, ':Id'");
     let mut room = [7u8; 4];
-    let told = bind_wide_values_into(rt.alloc(), b"-?", values, false, &mut room);
+    let given = ByPosition(values);
+    let told = bind_into(rt.alloc(), b"-?", &given, wide_in(false), &mut room);
     same_in(
         &rt,
         answer_of(&rt, told),

@@ -44,10 +44,7 @@ pub use mysql_bind_call::{
     bind_text_anywhere, bind_text_in, bind_text_in_any_mode, bind_text_in_both_modes, bind_values,
     bind_values_anywhere, bind_values_in_any_mode, bind_values_in_both_modes,
 };
-pub use mysql_binding::{
-    BindError, BindPairsError, ParsedQuery, TextInRoom, WideQuery, bind_pairs_into,
-    bind_values_into, bind_wide_pairs_into, bind_wide_values_into,
-};
+pub use mysql_binding::{BindError, BindPairsError, ParsedQuery, TextInRoom, WideQuery};
 pub use mysql_named_params::places::Reading;
 pub use mysql_portable::client::first_unportable_in_client;
 pub use mysql_portable::portable::{Construct, Unportable, first_unportable};

@@ -1,14 +1,14 @@
 //! Queries bound from names and values, and from fragments, that are borrowed.
 use crate::outcome::Memory::{Asked, Never};
 use crate::outcome::{Case, Memory, Outcome, cases, judged, row};
-use crate::purposes::WIDE_ANYWHERE;
+use crate::purposes::{WIDE_ANYWHERE, WITH_BACKSLASHES};
 use mysql_fragments::{FragmentRef, RowsRef, bind_borrowed_fragments};
 use mysql_params::params::NamedPairs;
 use mysql_params::{
     BindError, BindPairsError, BothModesError, BothModesPairsError, ByPosition, ParsedQuery,
-    SteadyPairsError, SteadyTextError, TextInRoom, bind, bind_pairs, bind_pairs_anywhere,
-    bind_pairs_in_any_mode, bind_pairs_in_both_modes, bind_pairs_into, bind_values,
-    bind_values_anywhere, bind_values_in_any_mode, bind_values_in_both_modes, bind_values_into,
+    SteadyPairsError, SteadyTextError, TextInRoom, bind, bind_into, bind_pairs,
+    bind_pairs_anywhere, bind_pairs_in_any_mode, bind_pairs_in_both_modes, bind_values,
+    bind_values_anywhere, bind_values_in_any_mode, bind_values_in_both_modes,
 };
 use mysql_values::value::ValueRef;
 use std::alloc::Global;
@@ -63,8 +63,8 @@ const PAIRS: &[(&str, PairsRow)] = cases! {
     "bind_pairs of names and marks" => Call::Plain, b":a ?", A, Err("Mixed"), Never;
     "bind_pairs of a place that does not stand alone" =>
         Call::Plain, b"x:a", A, Err("NotAlone { place: 0, at: 1 }"), Asked;
-    "bind_pairs_into of room" => Call::Room, b"x=:b", A, Ok(b"x=NULL"), Asked;
-    "bind_pairs_into of a name given twice" =>
+    "bind into room of two pairs" => Call::Room, b"x=:b", A, Ok(b"x=NULL"), Asked;
+    "bind into room of a name given twice" =>
         Call::Room, b"x=:a", TWICE, Err("Redefined { index: 1 }"), Never;
     "bind_pairs of a parsed query" => Call::Parsed, b"x=:b", A, Ok(b"x=NULL"), Asked;
     "append_pairs of a parsed query" => Call::Appended, b"x=:b", A, Ok(b"xyx=NULL"), Asked;
@@ -123,7 +123,7 @@ const VALUES: &[(&str, ValuesRow)] = cases! {
     "bind_values of a value" => Call::Plain, b"x=?", FIVE, Ok(b"x=5"), Asked;
     "bind_values of values for names" => Call::Plain, b"x=:a", FIVE, Err(FOR_NAMES), Asked;
     "bind_values of names and marks" => Call::Plain, b":a ?", FIVE, Err("Mixed"), Never;
-    "bind_values_into of room" => Call::Room, b"x=?", FIVE, Ok(b"x=5"), Asked;
+    "bind into room of a borrowed value" => Call::Room, b"x=?", FIVE, Ok(b"x=5"), Asked;
     "bind_values of a parsed query" => Call::Parsed, b"x=?", FIVE, Ok(b"x=5"), Asked;
     "append_values of a parsed query" => Call::Appended, b"x=?", FIVE, Ok(b"xyx=5"), Asked;
     "bind_values_anywhere of a value" => Call::Anywhere, b"x=?", FIVE, Ok(b"x=5"), Asked;
@@ -224,15 +224,25 @@ fn pairs_in_room(
     wanted: Wanted,
 ) -> Outcome {
     let mut room = *ROOM;
-    match bind_pairs_into(alloc, query, pairs, false, &mut room) {
-        Err(BindPairsError::Bind(error)) => told_in_room(Err(error), &room, ROOM, wanted),
-        told => told_in_room(told, &room, ROOM, wanted),
-    }
+    let told = bind_into(
+        alloc,
+        query,
+        &NamedPairs(pairs),
+        WITH_BACKSLASHES,
+        &mut room,
+    );
+    told_in_room(told, &room, ROOM, wanted)
 }
 
 fn values_in_room(alloc: Global, query: &[u8], values: &[ValueRef<'_>], wanted: Wanted) -> Outcome {
     let mut room = *ROOM;
-    let told = bind_values_into(alloc, query, values, false, &mut room);
+    let told = bind_into(
+        alloc,
+        query,
+        &ByPosition(values),
+        WITH_BACKSLASHES,
+        &mut room,
+    );
     told_in_room(told, &room, ROOM, wanted)
 }
 

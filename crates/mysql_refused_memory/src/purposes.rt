@@ -1,7 +1,13 @@
 //! Purposes.
 use mysql_params::{Portability, Purpose, Scope};
 
-/// For one server in the mode in which a backslash escapes, by wide names.
+/// For one server in the mode in which a backslash escapes.
+pub(crate) const WITH_BACKSLASHES: Purpose = Purpose {
+    wide_names: false,
+    ..WIDE
+};
+
+/// The same by wide names.
 pub(crate) const WIDE: Purpose = Purpose {
     scope: Scope::OneMode {
         no_backslash_escape: false,

@@ -8,10 +8,7 @@ use crate::purposes::{
 };
 use mysql_fragments::{FragmentRef, bind_wide_borrowed_fragments};
 use mysql_params::params::NamedPairs;
-use mysql_params::{
-    BindError, BindPairsError, ByPosition, Purpose, WideQuery, bind, bind_wide_pairs_into,
-    bind_wide_values_into,
-};
+use mysql_params::{BindError, ByPosition, Purpose, WideQuery, bind, bind_into};
 use mysql_values::value::ValueRef;
 use std::alloc::Global;
 
@@ -30,7 +27,7 @@ pub(crate) fn case(alloc: Global, name: &str) -> Option<Case> {
 #[derive(Clone, Copy)]
 enum Call {
     Bind(Purpose),
-    Room(bool),
+    Room(Purpose),
     Parsed(bool),
     Appended(bool),
 }
@@ -62,11 +59,12 @@ const PAIRS: &[(&str, PairsRow)] = cases! {
         Call::Bind(WIDE), b":A ?", TWO, Err("Values(Mixed)"), Never;
     "bind by wide names of pairs for a place that does not stand alone" =>
         Call::Bind(WIDE), b"x:A", TWO, Err("Values(NotAlone { place: 0, at: 1 })"), Asked;
-    "bind_wide_pairs_into of room" => Call::Room(false), b":a,:a", TWO, Ok(b"NULL,NULL"), Asked;
-    "bind_wide_pairs_into of room without backslash escapes" =>
-        Call::Room(true), b"'\\',:A", TWO, Ok(b"'\\','it''s'"), Asked;
-    "bind_wide_pairs_into of a name given twice" =>
-        Call::Room(false), b"x=:A", TWICE, Err("Redefined { index: 1 }"), Never;
+    "bind into room by wide names of two pairs" =>
+        Call::Room(WIDE), b":a,:a", TWO, Ok(b"NULL,NULL"), Asked;
+    "bind into room by wide names of pairs without backslash escapes" =>
+        Call::Room(WIDE_WITHOUT_BACKSLASHES), b"'\\',:A", TWO, Ok(b"'\\','it''s'"), Asked;
+    "bind into room by wide names of a name given twice" =>
+        Call::Room(WIDE), b"x=:A", TWICE, Err("Redefined { index: 1 }"), Never;
     "bind_pairs of a WideQuery" => Call::Parsed(false), b"x=:A", TWO, Ok(b"x='it\\'s'"), Asked;
     "bind_pairs of a WideQuery without backslash escapes" =>
         Call::Parsed(true), b"x=:A", TWO, Ok(b"x='it''s'"), Asked;
@@ -93,7 +91,7 @@ const PAIRS: &[(&str, PairsRow)] = cases! {
 fn pairs_bound(alloc: Global, (call, query, pairs, wanted, memory): PairsRow) -> Case {
     let outcome = match call {
         Call::Bind(purpose) => judged(bind(alloc, query, &NamedPairs(pairs), purpose), wanted),
-        Call::Room(mode) => pairs_in_room(alloc, query, pairs, mode, wanted),
+        Call::Room(purpose) => pairs_in_room(alloc, query, pairs, purpose, wanted),
         Call::Parsed(mode) => {
             let parsed = WideQuery::parse_in(alloc, query, mode)?;
             judged_pairs(parsed.bind_pairs(alloc, pairs), wanted)
@@ -135,9 +133,10 @@ const VALUES: &[(&str, ValuesRow)] = cases! {
         Call::Bind(WIDE), b"x=:A", FIVE, Err(VALUES_FOR_NAMES), Asked;
     "bind by wide names of values for names and marks" =>
         Call::Bind(WIDE), b":A ?", FIVE, Err("Values(Mixed)"), Never;
-    "bind_wide_values_into of room" => Call::Room(false), b"x=?", TEXT, Ok(b"x='it\\'s'"), Asked;
-    "bind_wide_values_into of room without backslash escapes" =>
-        Call::Room(true), b"x=?", TEXT, Ok(b"x='it''s'"), Asked;
+    "bind into room by wide names of a value" =>
+        Call::Room(WIDE), b"x=?", TEXT, Ok(b"x='it\\'s'"), Asked;
+    "bind into room by wide names of a value without backslash escapes" =>
+        Call::Room(WIDE_WITHOUT_BACKSLASHES), b"x=?", TEXT, Ok(b"x='it''s'"), Asked;
     "bind_values of a WideQuery" => Call::Parsed(false), b"x=?", FIVE, Ok(b"x=5"), Asked;
     "bind_values of a WideQuery for names" =>
         Call::Parsed(true), b"x=:A", FIVE, Err(FOR_NAMES), Asked;
@@ -160,7 +159,7 @@ const VALUES: &[(&str, ValuesRow)] = cases! {
 fn values_bound(alloc: Global, (call, query, values, wanted, memory): ValuesRow) -> Case {
     let outcome = match call {
         Call::Bind(purpose) => judged(bind(alloc, query, &ByPosition(values), purpose), wanted),
-        Call::Room(mode) => values_in_room(alloc, query, values, mode, wanted),
+        Call::Room(purpose) => values_in_room(alloc, query, values, purpose, wanted),
         Call::Parsed(mode) => {
             let parsed = WideQuery::parse_in(alloc, query, mode)?;
             judged(parsed.bind_values(alloc, values), wanted)
@@ -184,25 +183,23 @@ fn pairs_in_room(
     alloc: Global,
     query: &[u8],
     pairs: &[(&[u8], ValueRef<'_>)],
-    mode: bool,
+    purpose: Purpose,
     wanted: Wanted,
 ) -> Outcome {
     let mut room = *ROOM;
-    match bind_wide_pairs_into(alloc, query, pairs, mode, &mut room) {
-        Err(BindPairsError::Bind(error)) => told_in_room(Err(error), &room, ROOM, wanted),
-        told => told_in_room(told, &room, ROOM, wanted),
-    }
+    let told = bind_into(alloc, query, &NamedPairs(pairs), purpose, &mut room);
+    told_in_room(told, &room, ROOM, wanted)
 }
 
 fn values_in_room(
     alloc: Global,
     query: &[u8],
     values: &[ValueRef<'_>],
-    mode: bool,
+    purpose: Purpose,
     wanted: Wanted,
 ) -> Outcome {
     let mut room = *ROOM;
-    let told = bind_wide_values_into(alloc, query, values, mode, &mut room);
+    let told = bind_into(alloc, query, &ByPosition(values), purpose, &mut room);
     told_in_room(told, &room, ROOM, wanted)
 }
 

@@ -18,8 +18,8 @@ use crate::binding::form::PlainForm;
 use crate::binding::found::all_places;
 use crate::binding::names::query_names;
 use crate::binding::survey::{Survey, SurveyedQuery};
-use crate::binding::text::append_measured;
-use crate::binding::{KEPT_PLACES, NO_PLACE, measured_text};
+use crate::binding::text::bind_surveyed_after;
+use crate::binding::{KEPT_PLACES, NO_PLACE};
 use mysql_named_params::named_params::{MixedParamsError, NamedParamsError};
 use mysql_named_params::places::{FoundPlace, Reading};
 use mysql_params_core::params::BorrowedParams;
@@ -143,7 +143,6 @@ impl<'q> FoundQuery<'q> {
         let form = PlainForm {
             no_backslash_escape: surveyed.reading.no_backslash_escape,
         };
-        let measured = measured_text(alloc, &surveyed, params, &form)?;
-        Ok(append_measured(&surveyed, &measured, &form, text)?)
+        bind_surveyed_after(alloc, &surveyed, params, &form, text)
     }
 }

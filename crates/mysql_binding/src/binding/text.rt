@@ -1,9 +1,10 @@
 //! Writes the text of a query with the literals of values in its places, in a slice of its exact
 //! length.
-ghost use Rattle.std.specs.Prelude.{◌≡◌, ◌+◌, ◌++◌, ◌≤◌, ℕ, List, None, IfErr, IfOk, OnOk, OnErr, length, map, take};
+ghost use Rattle.std.specs.Prelude.{◌≡◌, ◌+◌, ◌++◌, ◌≤◌, ℕ, List, None, IfErr, IfOk, IsErrOf, OnOk, OnErr, length, map, take};
 ghost use Rattle.std.specs.List.{sum};
-ghost use Rattle.mysql_named_params.specs.Places.{place_count};
+ghost use Rattle.mysql_named_params.specs.Places.{HasMark, HasName, place_count};
 ghost use Rattle.mysql_params_core.specs.Given.{Given};
+ghost use Rattle.mysql_params_core.specs.GivenBorrowed.{given_by_borrowed};
 ghost use Rattle.mysql_binding.specs.AppendedText.{AreFound, IsAppended};
 ghost use Rattle.mysql_binding.specs.BindErrors.{IsCauseOrMemory};
 ghost use Rattle.mysql_binding.specs.FirstCause.{first_cause, first_float};
@@ -18,9 +19,10 @@ use crate::bind_error::BindError;
 use crate::binding::form::LiteralForm;
 use crate::binding::found::place_after;
 use crate::binding::literals::{MeasuredText, append_literal};
-use crate::binding::measured_values;
 use crate::binding::place_values::{PlaceValues, ValueList};
 use crate::binding::survey::SurveyedQuery;
+use crate::binding::{measured_text, measured_values};
+use mysql_params_core::params::BorrowedParams;
 use std::alloc::{AllocError, Global};
 
 /// The text of a measured query, in a vector of exactly its length.
@@ -117,6 +119,29 @@ pub fn append_surveyed<F: LiteralForm>(
     ensures kept { OnErr result (text.new.items ≡ text.old.items) }
 {
     let measured = measured_values(alloc, surveyed.survey, values, form)?;
+    Ok(append_measured(surveyed, &measured, form, text)?)
+}
+
+/// [`bind_surveyed_as`](crate::bind_surveyed_as) after what `text` holds, without allocating a
+/// vector for it. It is refused for the same causes, and then `text` is unchanged. For the crates
+/// above.
+pub fn bind_surveyed_after<F: LiteralForm>(
+    alloc: Global,
+    surveyed: &SurveyedQuery<'_>,
+    params: BorrowedParams<'_, '_>,
+    form: &F,
+    text: &mut Vec<u8>,
+) -> Result<(), BindError>
+    ensures appended { OnOk result ((more : List ℕ) × (text.new.items ≡ text.old.items ++ more)
+        × OnSurveyed surveyed.now (λ ts. IsGivenText (F.literal form.now) (F.IsKnown form.now) ts
+        (given_by_borrowed params.entry) more)) }
+    ensures refused { OnSurveyed surveyed.now (λ ts. IfErr result
+        (IsCauseOrMemory (first_cause ts (given_by_borrowed params.entry)))) }
+    ensures mixed { OnSurveyed surveyed.now (λ ts.
+        HasName ts × HasMark ts → IsErrOf result BindError.Mixed) }
+    ensures kept { OnErr result (text.new.items ≡ text.old.items) }
+{
+    let measured = measured_text(alloc, surveyed, params, form)?;
     Ok(append_measured(surveyed, &measured, form, text)?)
 }
 

@@ -4,13 +4,13 @@ use crate::borrowed::cases::{Case, Pair};
 use crate::borrowed::rooms::{Bound, front, room_for, take_appended, take_room};
 use crate::borrowed::tally::Call;
 use crate::borrowed::values::lent_values;
-use mysql_params::params::{Params, ToParamsError};
+use mysql_params::params::{NamedPairs, Params, ToParamsError};
 use mysql_params::{
-    BindError, BindPairsError, BothModesPairsError, ParsedQuery, SteadyPairsError, TextInRoom,
-    bind_pairs, bind_pairs_anywhere, bind_pairs_in_any_mode, bind_pairs_in_both_modes,
-    bind_pairs_into, bind_text_anywhere, bind_text_in, bind_text_in_any_mode,
-    bind_text_in_both_modes, bind_values, bind_values_anywhere, bind_values_in_any_mode,
-    bind_values_in_both_modes, bind_values_into,
+    BindError, BindPairsError, BindRefusal, BothModesPairsError, ByPosition, ParsedQuery,
+    Portability, Purpose, Scope, SteadyPairsError, TextInRoom, bind_into, bind_pairs,
+    bind_pairs_anywhere, bind_pairs_in_any_mode, bind_pairs_in_both_modes, bind_text_anywhere,
+    bind_text_in, bind_text_in_any_mode, bind_text_in_both_modes, bind_values,
+    bind_values_anywhere, bind_values_in_any_mode, bind_values_in_both_modes,
 };
 use mysql_values::value::ValueRef;
 use std::alloc::{AllocError, Global};
@@ -116,6 +116,28 @@ fn second(pairs: &[Pair], wanted: &[u8]) -> usize {
         is_there |= *name == wanted;
     }
     usize::MAX
+}
+
+// For one server in a mode.
+fn in_mode(no_backslash_escape: bool) -> Purpose {
+    Purpose {
+        scope: Scope::OneMode {
+            no_backslash_escape,
+        },
+        portability: Portability::Any,
+        wide_names: false,
+    }
+}
+
+// The refusal of values in a mode as the error of `bind_pairs`. One that doesn't come there is an
+// error that `bind_pairs` doesn't give.
+fn error_of(refusal: BindRefusal) -> BindPairsError {
+    match refusal {
+        BindRefusal::Redefined { index } => BindPairsError::Redefined { index },
+        BindRefusal::Values(error) => BindPairsError::Bind(error),
+        BindRefusal::Memory(error) => BindPairsError::Bind(BindError::Memory(error)),
+        _ => BindPairsError::Redefined { index: usize::MAX },
+    }
 }
 
 impl Given<'_> {
@@ -267,13 +289,12 @@ impl Given<'_> {
 
     // What is lent, into a room.
     fn bound_into(&self, mode: bool, room: &mut Vec<u8>) -> Result<TextInRoom, BindPairsError> {
-        match self.lent {
-            Lent::Pairs(pairs) => bind_pairs_into(self.alloc, self.query, pairs, mode, room),
-            Lent::Values(values) => {
-                let made = bind_values_into(self.alloc, self.query, values, mode, room);
-                made.map_err(BindPairsError::Bind)
-            }
-        }
+        let (alloc, query, purpose) = (self.alloc, self.query, in_mode(mode));
+        let made = match self.lent {
+            Lent::Pairs(pairs) => bind_into(alloc, query, &NamedPairs(pairs), purpose, room),
+            Lent::Values(values) => bind_into(alloc, query, &ByPosition(values), purpose, room),
+        };
+        made.map_err(error_of)
     }
 
     // The query, parsed.

@@ -1,39 +1,25 @@
-use Rattle.std.proofs.Common.{inl, inr, refl}
-use Rattle.mysql_bind_call.proofs.ResultLemmas.{never_err}
+use Rattle.std.proofs.Common.{ap, refl}
+use Rattle.std.specs.Prelude.{Err}
+use Rattle.mysql_bind_call.proofs.EndLemmas.{early_after, refused_after}
+use Rattle.mysql_bind_call.proofs.ResultLemmas.{ok_to}
 use Rattle.mysql_bind_call.proofs.ScopeLemmas.{on_query_map}
 use Rattle.mysql_bind_call.proofs.appended.append.Goals as goal
 
-pub returns-in-Ok-extend_from_slice-clause-bound : goal.returns-in-Ok-extend_from_slice-clause-bound
-returns-in-Ok-extend_from_slice-clause-bound g c = (
-  c.in-Ok.ensures.bound.0,
-  λ given gives.
-      on_query_map c.args.purpose c.args.query.now _ _
-      (λ ts t. (c.in-Ok.bound.items, rw c.as_slice.ensures.value at c.in-Ok-extend_from_slice.ensures.items, t))
-      (c.in-Ok.ensures.bound.1 given gives),
-)
+pub returns-in-Some-clause-early : goal.returns-in-Some-clause-early
+returns-in-Some-clause-early g c takes given gives =
+    on_query_map c.args.purpose c.args.query.now _ _ (λ ts h refusal e. ap (λ x. Err x) (h refusal e)) (c.in-Some.ensures.early takes given gives)
 
-pub returns-in-Ok-extend_from_slice-clause-early : goal.returns-in-Ok-extend_from_slice-clause-early
-returns-in-Ok-extend_from_slice-clause-early g c needs given gives =
-    on_query_map c.args.purpose c.args.query.now _ _
-    (λ ts h refusal e. absurd (never_err _ _ (h refusal e)))
-    (c.in-Ok.ensures.early needs given gives)
+pub returns-in-None-clause-bound : goal.returns-in-None-clause-bound
+returns-in-None-clause-bound g c =
+    ok_to _ _ c.text_after.result (λ text h. (c.in-None.ensures.made refl, λ given gives. h given (c.given.ensures given gives))) c.text_after.ensures.bound
 
-pub returns-in-Ok-clause-refused : goal.returns-in-Ok-clause-refused
-returns-in-Ok-clause-refused g c =
-    inr (
-      c.in-Ok.ensures.bound.0,
-      λ given gives.
-          on_query_map c.args.purpose c.args.query.now _ _ (λ ts none. (none, inl refl)) c.in-Ok.ensures.accepted,
-    )
+pub returns-in-None-clause-accepted : goal.returns-in-None-clause-accepted
+returns-in-None-clause-accepted g c = ok_to _ _ c.text_after.result (λ text h. c.in-None.ensures.accepted refl) c.text_after.ensures.bound
 
-pub returns-in-Ok-clause-early : goal.returns-in-Ok-clause-early
-returns-in-Ok-clause-early g c needs given gives =
-    on_query_map c.args.purpose c.args.query.now _ _
-    (λ ts h refusal e. absurd (never_err _ _ (h refusal e)))
-    (c.in-Ok.ensures.early needs given gives)
+pub returns-in-None-clause-refused : goal.returns-in-None-clause-refused
+returns-in-None-clause-refused g c =
+    refused_after c.text_after.result c.args.purpose c.args.query.now (c.in-None.ensures.accepted refl) _ _ c.given.ensures _ _ (c.in-None.ensures.made refl) c.text_after.ensures.refused
 
-pub returns-clause-early : goal.returns-clause-early
-returns-clause-early g c needs given gives =
-    on_query_map c.args.purpose c.args.query.now _ _
-    (λ ts h refusal e. let same = h refusal e in cc)
-    (c.in-Err.ensures.early needs given gives)
+pub returns-in-None-clause-early : goal.returns-in-None-clause-early
+returns-in-None-clause-early g c takes =
+    early_after c.text_after.result c.args.purpose c.args.query.now (c.in-None.ensures.accepted refl) _ _ c.given.ensures c.text_after.ensures.mixed
