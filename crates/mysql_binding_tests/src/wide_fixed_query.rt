@@ -6,8 +6,41 @@ ghost use Rattle.mysql_values.specs.LiteralText.{bytes_literal};
 ghost use Rattle.mysql_values.specs.StringUnits.{with_backslashes};
 ghost use Rattle.mysql_params.specs.SteadyLiteral.{steady_bytes_literal};
 
-use mysql_params::fixed_query::{bind_wide_named, bind_wide_named_anywhere, bind_wide_named_in};
+use mysql_params::fixed_query::bind_named_for;
+use mysql_params::{Portability, Purpose, Scope};
 use std::alloc::{AllocError, Global};
+
+/// For one server in the mode in which a backslash escapes, by wide names.
+const WITH_BACKSLASHES: Purpose = Purpose {
+    scope: Scope::OneMode {
+        no_backslash_escape: false,
+    },
+    portability: Portability::Any,
+    wide_names: true,
+};
+
+/// The same in the other mode.
+const WITHOUT_BACKSLASHES: Purpose = Purpose {
+    scope: Scope::OneMode {
+        no_backslash_escape: true,
+    },
+    portability: Portability::Any,
+    wide_names: true,
+};
+
+/// For any connection to any server, by wide names.
+const ANYWHERE: Purpose = Purpose {
+    scope: Scope::AnyConnection,
+    portability: Portability::Servers,
+    wide_names: true,
+};
+
+/// For either mode of any server, by wide names.
+const IN_BOTH_MODES: Purpose = Purpose {
+    scope: Scope::EitherMode,
+    portability: Portability::Servers,
+    wide_names: true,
+};
 
 const USER: &[u8] = b"SELECT ':Id' FROM user WHERE id = :userId AND :Name <> name";
 
@@ -17,7 +50,12 @@ pub fn user(alloc: Global, id: u32, name: &str) -> Result<Vec<u8>, AllocError>
         ≡ codes "SELECT ':Id' FROM user WHERE id = " ++ (decimal id ++ (codes " AND "
         ++ (bytes_literal with_backslashes name.now ++ codes " <> name")))) }
 {
-    bind_wide_named(alloc, USER, &(("Name", name), ("userId", id)))
+    bind_named_for(
+        alloc,
+        USER,
+        &(("Name", name), ("userId", id)),
+        WITH_BACKSLASHES,
+    )
 }
 
 /// The same for any mode and any server.
@@ -26,18 +64,28 @@ pub fn user_anywhere(alloc: Global, id: u32, name: &str) -> Result<Vec<u8>, Allo
         ≡ codes "SELECT ':Id' FROM user WHERE id = " ++ (decimal id ++ (codes " AND "
         ++ (steady_bytes_literal name.now ++ codes " <> name")))) }
 {
-    bind_wide_named_anywhere(alloc, USER, &(("Name", name), ("userId", id)))
+    bind_named_for(alloc, USER, &(("Name", name), ("userId", id)), ANYWHERE)
 }
 
 /// The same without backslash escapes.
 pub fn user_in(alloc: Global, id: u32, name: &str) -> Result<Vec<u8>, AllocError> {
-    bind_wide_named_in(alloc, USER, &(("Name", name), ("userId", id)), true)
+    bind_named_for(
+        alloc,
+        USER,
+        &(("Name", name), ("userId", id)),
+        WITHOUT_BACKSLASHES,
+    )
 }
 
 /// Names that differ by their case alone, one of them twice.
 pub fn three_ids(alloc: Global, ids: (u8, i16, bool)) -> Result<Vec<u8>, AllocError> {
     let pairs = (("id", ids.0), ("Id", ids.1), ("ID", ids.2));
-    bind_wide_named(alloc, b"SELECT (:ID, :id-:Id) -- :Id\n, :id", &pairs)
+    bind_named_for(
+        alloc,
+        b"SELECT (:ID, :id-:Id) -- :Id\n, :id",
+        &pairs,
+        WITH_BACKSLASHES,
+    )
 }
 
 // With backslash escapes the string of this query would end after the name.
@@ -45,15 +93,26 @@ const PATH: &[u8] = b"SELECT 'C:\\', :_Path";
 
 /// A query in which a backslash ends a string, without backslash escapes.
 pub fn path(alloc: Global, folder: &str) -> Result<Vec<u8>, AllocError> {
-    bind_wide_named_in(alloc, PATH, &(("_Path", folder),), true)
+    bind_named_for(alloc, PATH, &(("_Path", folder),), WITHOUT_BACKSLASHES)
 }
 
 /// A query whose name has no capital, for any mode and any server.
 pub fn lower_case(alloc: Global, town: Option<&str>) -> Result<Vec<u8>, AllocError> {
-    bind_wide_named_anywhere(
+    bind_named_for(
         alloc,
         b"SELECT T.* /*! */ FROM T WHERE town<=>:town",
         &(("town", town),),
+        ANYWHERE,
+    )
+}
+
+/// A query with bytes from 128 on, for either mode of any server.
+pub fn shoes(alloc: Global, least: u8) -> Result<Vec<u8>, AllocError> {
+    bind_named_for(
+        alloc,
+        b"SELECT `gr\xc3\xb6\xc3\x9fe` FROM shoe WHERE size >= :atLeast",
+        &(("atLeast", least),),
+        IN_BOTH_MODES,
     )
 }
 
@@ -107,6 +166,15 @@ mod tests {
             &rt,
             answer_of(&rt, three_ids(rt.alloc(), (1, -2, true))),
             b"SELECT (1, 1--2) -- :Id\n, 1",
+        );
+    }
+
+    #[test]
+    fn by_wide_name_in_both_modes(rt: HostRuntime) {
+        is_text(
+            &rt,
+            answer_of(&rt, shoes(rt.alloc(), 40)),
+            b"SELECT `gr\xc3\xb6\xc3\x9fe` FROM shoe WHERE size >= 40",
         );
     }
 }

@@ -5,14 +5,13 @@ use Rattle.std.specs.Option.{option_map, option_or}
 use Rattle.mysql_values.specs.declared.value.Value.{Value}
 use Rattle.mysql_values.specs.ValueOf.{Meaning}
 use Rattle.mysql_named_params.specs.Tokens.{Token}
-use Rattle.mysql_named_params.specs.TokensOf.{tokens_of}
 use Rattle.mysql_named_params.specs.Places.{names, marks, has_both}
 use Rattle.mysql_params_core.specs.Given.{Given, empty, named, positional}
 use Rattle.mysql_params_core.specs.Lookup.{lookup}
 use Rattle.mysql_params_core.specs.Made.{Made, pairs_made}
 use Rattle.mysql_binding.specs.StandsAlone.{first_not_alone}
 use Rattle.mysql_binding.specs.FirstCause.{first_cause, first_float, mixed_cause, mixed_query, count_cause, mark_count, mark_count_differs, not_alone_cause, not_alone, float_cause, float_value, later_cause, cause_after_lookup}
-use Rattle.mysql_fixed_query.specs.Bindable.{Fits, IsBindableByPosition, given_by, valued, is_by_position, values_of}
+use Rattle.mysql_fixed_query.specs.Bindable.{Fits, FitsByPosition, given_by, valued, is_by_position, values_of}
 use Rattle.mysql_fixed_query.specs.FixedText.{values_for}
 use Rattle.mysql_fixed_query.proofs.GivenLemmas.{pair_names-valued, pairs_made-new, lookup-given_by, no_float_given}
 
@@ -71,24 +70,21 @@ module _ {ts : List Token} {pairs : List (List ℕ × Meaning)} (h : Fits ts pai
 
 -- ---- by position
 
-module _ {mode : Bool} {query : List ℕ} {made : Made}
-    (h : IsBindableByPosition mode query made) where
+module _ {ts : List Token} {made : Made} (h : FitsByPosition ts made) where
   -- the parameters that are made, which give their values to the query
-  pub in_order : (g : Given) × (made ≡ Ok g)
-      × (lookup g (names (tokens_of mode query)) ≡ Ok (values_of made))
+  pub in_order : (g : Given) × (made ≡ Ok g) × (lookup g (names ts) ≡ Ok (values_of made))
   in_order = of_made made h.by_position
     where
       of_made : (m : Made) → is_by_position m ≡ true → (g : Given) × (m ≡ Ok g)
-          × (lookup g (names (tokens_of mode query)) ≡ Ok (values_of m))
+          × (lookup g (names ts) ≡ Ok (values_of m))
       of_made (Ok empty) e = (empty, refl, ap (lookup empty) h.no_name)
       of_made (Ok (positional values)) e =
           (positional values, refl, ap (lookup (positional values)) h.no_name)
       of_made (Ok (named entries)) e = cc
       of_made (Err refusal) e = cc
 
-  pub no_cause_by_position : first_cause (tokens_of mode query) in_order.0 ≡ None
+  pub no_cause_by_position : first_cause ts in_order.0 ≡ None
   no_cause_by_position =
-      let ts : List Token = tokens_of mode query in
       let unmixed : has_both ts ≡ false =
       ap (λ ns. nat_lt 0 (length ns) && nat_lt 0 (marks ts)) h.no_name in
       no_cause ts in_order.0 (values_of made) unmixed in_order.2

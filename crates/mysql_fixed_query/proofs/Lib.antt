@@ -1,6 +1,6 @@
 pub mod TokensLemmas
 pub mod GivenLemmas
 pub mod CauseLemmas
+pub mod AcceptedLemmas
 pub mod TextLemmas
 pub mod AnswerLemmas
-pub mod AnywhereLemmas

@@ -6,6 +6,7 @@ use Rattle.std.specs.List.{list_all, list_any}
 use Rattle.std.specs.Ordering.{eq_by_cmp, nat_cmp}
 use Rattle.std.specs.Cmp.Lexicographic.{slice_cmp}
 use Rattle.std.specs.FinMap.{from_entries}
+use Rattle.mysql_sql_text.specs.StringUnits.{without_backslashes}
 use Rattle.mysql_values.specs.declared.value.Value.{Value}
 use Rattle.mysql_values.specs.Literal.{is_float}
 use Rattle.mysql_values.specs.ValueOf.{Meaning}
@@ -13,14 +14,31 @@ use Rattle.mysql_named_params.specs.Tokens.{Token}
 use Rattle.mysql_named_params.specs.TokensOf.{tokens_of}
 use Rattle.mysql_named_params.specs.NamesAndMarks.{names, marks}
 use Rattle.mysql_named_params.specs.WideNames.{widened}
+use Rattle.mysql_named_params.specs.declared.places.Reading.{Reading}
 use Rattle.mysql_params_core.specs.GivenValues.{Given, empty, named, positional}
 use Rattle.mysql_params_core.specs.Made.{Made}
 use Rattle.mysql_binding.specs.FirstNotAlone.{first_not_alone}
 use Rattle.mysql_binding.specs.FirstCause.{first_float}
+use Rattle.mysql_steady_text.specs.Purposes.{query_refusal, reading_for}
+use Rattle.mysql_steady_text.specs.declared.purpose.Purpose.{Purpose}
 
--- the tokens of a query in a mode, with wide names
-abbrev pub wide_tokens_of : Bool → List ℕ → List Token
-wide_tokens_of mode query = widened (tokens_of mode query)
+-- tokens with wide names, or as they are
+abbrev pub named_by : (wide_names : Bool) → List Token → List Token
+named_by true ts = widened ts
+named_by false ts = ts
+
+-- the tokens of a query in a reading
+abbrev pub tokens_in : Reading → List ℕ → List Token
+tokens_in reading query = named_by reading.wide_names (tokens_of reading.no_backslash_escape query)
+
+-- The tokens of a query for a purpose. If the query isn't refused for it, they are the same in each
+-- mode of the purpose.
+abbrev pub tokens_for : Purpose → List ℕ → List Token
+tokens_for purpose = tokens_in (reading_for purpose without_backslashes)
+
+-- the query isn't refused for the purpose
+abbrev pub IsAcceptedFor : Purpose → List ℕ → Type 0
+IsAcceptedFor purpose query = query_refusal purpose query (tokens_for purpose query) ≡ None
 
 -- the names of pairs
 abbrev pub pair_names : {A : Type 0} → List (List ℕ × A) → List (List ℕ)
@@ -86,15 +104,19 @@ abbrev pub values_of : Made → List Value
 values_of (Ok (positional values)) = values
 values_of made = []
 
--- the query fits the parameters that things made, by position: out of memory is the only error of
--- binding it to them
-pub record IsBindableByPosition (mode : Bool) (query : List ℕ) (made : Made) : Type 0 where
+-- a query of these tokens fits the parameters that things made, by position: out of memory is the
+-- only error of binding it to them
+pub record FitsByPosition (ts : List Token) (made : Made) : Type 0 where
   -- these are values by position, or nothing,
   pub by_position : IsTrue (is_by_position made)
   -- it has no name, and as many marks as there are values,
-  pub no_name : names (tokens_of mode query) ≡ []
-  pub count : marks (tokens_of mode query) ≡ length (values_of made)
+  pub no_name : names ts ≡ []
+  pub count : marks ts ≡ length (values_of made)
   -- each of its places stands alone,
-  pub alone : first_not_alone (tokens_of mode query) ≡ None
+  pub alone : first_not_alone ts ≡ None
   -- and no value is a float.
   pub literals : first_float (values_of made) ≡ None
+
+-- the query fits these parameters, by the marks of the grammar
+abbrev pub IsBindableByPosition : Bool → List ℕ → Made → Type 0
+IsBindableByPosition mode query = FitsByPosition (tokens_of mode query)

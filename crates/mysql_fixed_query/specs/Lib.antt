@@ -1,3 +1,2 @@
 pub mod Bindable
 pub mod FixedText
-pub mod BindableAnywhere

@@ -1,16 +1,47 @@
 //! Fixed queries, bound to values by position.
-ghost use Rattle.std.specs.Prelude.{◌≡◌, IfOk};
+ghost use Rattle.std.specs.Prelude.{◌≡◌, Bool, IfOk};
 ghost use Rattle.mysql_sql_text.specs.StringUnits.{with_backslashes};
 ghost use Rattle.mysql_named_params.specs.TokensOf.{tokens_of};
 ghost use Rattle.mysql_binding.specs.Isolation.{IsBoundText};
-ghost use Rattle.mysql_fixed_query.specs.Bindable.{IsBindableByPosition, values_of};
-ghost use Rattle.mysql_fixed_query.specs.FixedText.{bound_text};
+ghost use Rattle.mysql_steady_text.specs.Purposes.{reading_for};
+ghost use Rattle.mysql_bind_call.specs.Accepted.{IsAccepted};
+ghost use Rattle.mysql_bind_call.specs.BoundTexts.{IsValuesText};
+ghost use Rattle.mysql_fixed_query.specs.Bindable.{FitsByPosition, IsBindableByPosition, IsAcceptedFor, tokens_for, tokens_in, values_of};
+ghost use Rattle.mysql_fixed_query.specs.FixedText.{bound_text, text_for};
 
 use crate::made::bind_made;
-use mysql_binding::PlainForm;
-use mysql_named_params::places::Reading;
 use mysql_params_core::params::ToParams;
+use mysql_steady_text::purpose::{Portability, Purpose, Scope};
 use std::alloc::{AllocError, Global};
+
+/// The query with the literals of the values in the places of its marks, in order, for a purpose,
+/// as `mysql_bind_call::bind` gives it.
+///
+/// The caller proves that nothing refuses it. The query isn't refused for the purpose
+/// ([`query_refusal`](mysql_steady_text::purpose::query_refusal)). The things make values by
+/// position, or nothing. The query has no name, and as many marks as there are values. Each of its
+/// places stands alone, and no value is a float. So the only error is out of memory.
+///
+/// For a constant query and purpose and a tuple of things the prover computes this by itself. The
+/// rest is as for [`bind_named_for`](crate::bind_named_for).
+#[inline(always)]
+pub fn bind_positional_for<P: ToParams>(
+    alloc: Global,
+    query: &[u8],
+    things: &P,
+    purpose: Purpose,
+) -> Result<Vec<u8>, AllocError>
+    requires accepted { IsAcceptedFor purpose query.now }
+    requires fits { FitsByPosition (tokens_for purpose query.now) (P.made things.now) }
+    ensures bound { (mode : Bool) → IfOk (P.made things.now) (λ given. IfOk result (λ text.
+        IsValuesText purpose.scope (tokens_in (reading_for purpose mode) query.now) given
+        text.items)) }
+    ensures accepted { IsAccepted purpose query.now }
+    ensures text { IfOk result (λ text. text.items ≡ text_for purpose query.now
+        (values_of (P.made things.now))) }
+{
+    bind_made(alloc, query, things.to_params(alloc), purpose)
+}
 
 /// The query with the literals of the values in the places of its marks, in order, in a mode of the
 /// server, as `bind_text_in` gives it. The flag is the mode: with `true` a backslash is a byte like
@@ -20,6 +51,7 @@ use std::alloc::{AllocError, Global};
 /// query has no name, and as many marks as there are values. Each of its places stands alone, and
 /// no value is a float. For a constant query and a tuple of things the prover computes this by
 /// itself. So the only error is out of memory. A query without places takes `&()`.
+#[inline(always)]
 pub fn bind_positional_in<P: ToParams>(
     alloc: Global,
     query: &[u8],
@@ -33,14 +65,14 @@ pub fn bind_positional_in<P: ToParams>(
     ensures text { IfOk result (λ text. text.items ≡ bound_text no_backslash_escape query.now
         (values_of (P.made things.now))) }
 {
-    let form = PlainForm {
-        no_backslash_escape,
-    };
-    let reading = Reading {
-        no_backslash_escape,
+    let purpose = Purpose {
+        scope: Scope::OneMode {
+            no_backslash_escape,
+        },
+        portability: Portability::Any,
         wide_names: false,
     };
-    bind_made(alloc, query, things.to_params(alloc), reading, &form)
+    bind_positional_for(alloc, query, things, purpose)
 }
 
 /// The query with the literals of the values in the places of its marks, in order, in the mode in

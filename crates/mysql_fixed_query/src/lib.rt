@@ -2,19 +2,15 @@
 //! the facts that the prover computes about such a query. The only error of binding it is then out
 //! of memory.
 //!
-//! [`bind_named`] takes values by name, and [`bind_positional`] by position, in the mode in which a
-//! backslash escapes. [`bind_named_in`] and [`bind_positional_in`] take the mode.
-//! [`bind_named_anywhere`] and [`bind_positional_anywhere`] give text for any mode and any server.
-//! The calls with `wide` in their names, such as [`bind_wide_named`], take names with capitals.
+//! [`bind_named_for`] takes values by name, and [`bind_positional_for`] by position, for any
+//! [`Purpose`](mysql_steady_text::purpose::Purpose). [`bind_named_in`] and [`bind_positional_in`]
+//! do so for one mode, and [`bind_named`] and [`bind_positional`] for the mode in which a backslash
+//! escapes.
 #![tactic(auto)]
 
-mod anywhere;
 mod by_name;
 mod by_position;
 mod made;
-mod wide;
 
-pub use anywhere::{bind_named_anywhere, bind_positional_anywhere};
-pub use by_name::{bind_named, bind_named_in};
-pub use by_position::{bind_positional, bind_positional_in};
-pub use wide::{bind_wide_named, bind_wide_named_anywhere, bind_wide_named_in};
+pub use by_name::{bind_named, bind_named_for, bind_named_in};
+pub use by_position::{bind_positional, bind_positional_for, bind_positional_in};

@@ -66,7 +66,6 @@ pub use Rattle.mysql_steady_text.specs.GuardedAgain
 pub use Rattle.mysql_steady_text.specs.KnownSets
 pub use Rattle.mysql_fixed_query.specs.Bindable
 pub use Rattle.mysql_fixed_query.specs.FixedText
-pub use Rattle.mysql_fixed_query.specs.BindableAnywhere
 pub use Rattle.mysql_query_core.specs.Words
 pub use Rattle.mysql_query_core.specs.WordErrors
 pub use Rattle.mysql_query_core.specs.Program

@@ -45,3 +45,17 @@ pub(crate) const WIDE_IN_BOTH_MODES: Purpose = Purpose {
     portability: Portability::Servers,
     wide_names: true,
 };
+
+/// For any connection to any server.
+pub(crate) const ANYWHERE: Purpose = Purpose {
+    scope: Scope::AnyConnection,
+    portability: Portability::Servers,
+    wide_names: false,
+};
+
+/// For either mode of any server.
+pub(crate) const IN_BOTH_MODES: Purpose = Purpose {
+    scope: Scope::EitherMode,
+    portability: Portability::Servers,
+    wide_names: false,
+};

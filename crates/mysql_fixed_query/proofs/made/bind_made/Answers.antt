@@ -1,27 +1,54 @@
-use Rattle.std.proofs.Common.{subst, ◌∙◌}
-use Rattle.mysql_named_params.specs.Reading.{OnTokensIn}
-use Rattle.mysql_params_core.specs.Given.{Given}
-use Rattle.mysql_binding.specs.BindErrors.{IsCauseOrMemory}
+use Rattle.std.proofs.Common.{◌≡◌, None}
 use Rattle.mysql_binding.specs.FirstCause.{first_cause}
-use Rattle.mysql_binding.specs.WrittenText.{IsGivenText}
-use Rattle.mysql_fixed_query.proofs.AnswerLemmas.{made_is, memory_alone}
+use Rattle.mysql_steady_text.specs.declared.purpose.Scope.TheVariants.{OneMode, EitherMode, AnyConnection}
+use Rattle.mysql_bind_call.proofs.ValueLemmas.{any_bound, either_bound, one_mode_bound}
+use Rattle.mysql_fixed_query.proofs.AcceptedLemmas.{each_text, on_tokens, accepted_in_each_mode}
 use Rattle.mysql_fixed_query.proofs.made.bind_made.Goals as goal
 
-pub returns-in-Ok-bind_borrowed_as : goal.returns-in-Ok-bind_borrowed_as
-returns-in-Ok-bind_borrowed_as g c = record {
-  text = λ expected answer.
-      subst (λ (h : Given). OnTokensIn c.args.reading c.args.query.now (λ ts.
-      IsGivenText (g.F.LiteralForm.literal c.args.form.now) (g.F.LiteralForm.IsKnown c.args.form.now) ts h
-      c.in-Ok-bind_borrowed_as.text.items))
-      (c.borrowed.ensures ∙ made_is expected _ c.args.made c.in-Ok.is answer)
-      c.in-Ok-bind_borrowed_as.ensures.text;
+pub bind_made_as-requires-clause-no_cause : goal.bind_made_as-requires-clause-no_cause
+bind_made_as-requires-clause-no_cause c =
+    let known = c.requires.no_cause in (
+      known.0,
+      known.1,
+      on_tokens c.args.purpose (OneMode c.in-OneMode.no_backslash_escape) c.args.query.now (λ ts. first_cause ts known.0 ≡ None) c.in-OneMode.is known.2,
+    )
+
+pub bind_made_as-requires-in-EitherMode-clause-no_cause : goal.bind_made_as-requires-in-EitherMode-clause-no_cause
+bind_made_as-requires-in-EitherMode-clause-no_cause c =
+    let known = c.requires.no_cause in (
+      known.0,
+      known.1,
+      on_tokens c.args.purpose EitherMode c.args.query.now (λ ts. first_cause ts known.0 ≡ None) c.in-EitherMode.is known.2,
+    )
+
+pub bind_made_as-requires-in-AnyConnection-clause-no_cause : goal.bind_made_as-requires-in-AnyConnection-clause-no_cause
+bind_made_as-requires-in-AnyConnection-clause-no_cause c =
+    let known = c.requires.no_cause in (
+      known.0,
+      known.1,
+      on_tokens c.args.purpose AnyConnection c.args.query.now (λ ts. first_cause ts known.0 ≡ None) c.in-AnyConnection.is known.2,
+    )
+
+pub returns-in-OneMode : goal.returns-in-OneMode
+returns-in-OneMode c = record {
+  text = λ expected answer. each_text (λ text. text.items) c.bind_made_as.result c.args.purpose c.args.query.now expected
+      (one_mode_bound (λ text. text.items) c.bind_made_as.result c.args.purpose c.args.query.now expected
+      c.in-OneMode.no_backslash_escape c.in-OneMode.is
+      (c.bind_made_as.ensures.text expected answer));
 }
 
-pub memory_of_binding-requires : goal.memory_of_binding-requires
-memory_of_binding-requires g c =
-    let known = c.requires.no_cause in
-    let error = c.in-Err-bind_borrowed_as.error in
-    memory_alone c.args.reading c.args.query.now known.0 error known.2
-    (subst (λ (h : Given). OnTokensIn c.args.reading c.args.query.now (λ ts. IsCauseOrMemory (first_cause ts h) error))
-    (c.borrowed.ensures ∙ made_is known.0 _ c.args.made c.in-Ok.is known.1)
-    c.in-Err-bind_borrowed_as.ensures.refused)
+pub returns-in-EitherMode : goal.returns-in-EitherMode
+returns-in-EitherMode c = record {
+  text = λ expected answer. each_text (λ text. text.items) c.bind_made_as-in-EitherMode.result c.args.purpose c.args.query.now expected
+      (either_bound (λ text. text.items) c.bind_made_as-in-EitherMode.result c.args.purpose c.args.query.now expected
+      c.in-EitherMode.is (accepted_in_each_mode c.args.purpose c.args.query.now c.requires.accepted)
+      (c.bind_made_as-in-EitherMode.ensures.text expected answer));
+}
+
+pub returns-in-AnyConnection : goal.returns-in-AnyConnection
+returns-in-AnyConnection c = record {
+  text = λ expected answer. each_text (λ text. text.items) c.bind_made_as-in-AnyConnection.result c.args.purpose c.args.query.now expected
+      (any_bound (λ text. text.items) c.bind_made_as-in-AnyConnection.result c.args.purpose c.args.query.now expected
+      c.in-AnyConnection.is (accepted_in_each_mode c.args.purpose c.args.query.now c.requires.accepted)
+      (c.bind_made_as-in-AnyConnection.ensures.text expected answer));
+}
