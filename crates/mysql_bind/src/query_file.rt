@@ -5,10 +5,9 @@ use crate::construct_texts::ConstructTexts;
 use crate::sources::{Sources, shown_path};
 use crate::values::{Values, wrong_values};
 use mysql_bind_core::{Failure, Request, line_and_column};
-use mysql_binding::{BindError, WideQuery};
+use mysql_binding::WideQuery;
 use mysql_fragments::{FragmentsError, SteadyFragmentsError};
 use mysql_named_params::places::{FoundPlace, PlaceKind};
-use mysql_steady_text::SteadyTextError;
 use mysql_values::show::Shown;
 use std::alloc::{AllocError, Global};
 
@@ -159,47 +158,13 @@ fn redefined(alloc: Global, name: &[u8]) -> Result<Complaint, AllocError> {
     Ok(Complaint::Refused(one_fault(alloc, Place::Words, what)?))
 }
 
-// What is said if values can't be bound into a steady text. The query is taken, so it is steady and
-// portable, if that is asked for.
-fn steady_refused(
-    alloc: Global,
-    query: &QueryFile<'_>,
-    error: SteadyTextError,
-) -> Result<Complaint, AllocError> {
-    match error {
-        SteadyTextError::Bind(error) => binding_refused(alloc, query, error),
-        error => {
-            let what = format!(in alloc; "{error}")?;
-            let path = String::from_str(alloc, query.path)?;
-            Ok(Complaint::Refused(one_fault(alloc, Place::File(path), what)?))
-        }
-    }
-}
-
 /// The message about a name that joins the text beside it.
 pub static JOINED: &str =
     "this name joins what stands beside it: write a space or a comma between them (and in a label \
      a space after its colon)";
 
-// What is said if values can't be bound.
-fn binding_refused(
-    alloc: Global,
-    query: &QueryFile<'_>,
-    error: BindError,
-) -> Result<Complaint, AllocError> {
-    match error {
-        BindError::Memory(_) => Ok(Complaint::Memory),
-        BindError::NotAlone { at, .. } => refused_at(alloc, query, at, JOINED),
-        error => {
-            let what = format!(in alloc; "{error}")?;
-            let path = String::from_str(alloc, query.path)?;
-            Ok(Complaint::Refused(one_fault(alloc, Place::File(path), what)?))
-        }
-    }
-}
-
-// What is said if exact numbers, names and lists can't be bound. Each can be written, since its
-// bytes are what its type takes.
+// What is said if values and other fragments can't be bound. Each can be written, since its bytes
+// are what its type takes.
 fn fragments_refused(
     alloc: Global,
     query: &QueryFile<'_>,
@@ -273,8 +238,6 @@ pub fn complaint_of(
         Failure::Marks => mark_refused(alloc, query, mode),
         Failure::NoValue => Ok(Complaint::Refused(wrong_values(alloc, values)?)),
         Failure::Redefined(name) => redefined(alloc, name.as_slice()),
-        Failure::Plain(error) => binding_refused(alloc, query, error),
-        Failure::Steady(error) => steady_refused(alloc, query, error),
         Failure::Fragments(error) => fragments_refused(alloc, query, error),
         Failure::SteadyFragments(error) => steady_fragments_refused(alloc, query, error),
         Failure::UnportableText(found) => {

@@ -1,34 +1,25 @@
 -- The text of a row at the end of a script, as it is asked for.
-use Rattle.std.specs.Prelude.{Bool, true, false, Result, Ok, Err, IfOk, OnOk, OnErr, None}
-use Rattle.std.proofs.Common.{◌≡◌, ◌++◌, ℕ, List, refl, sym, ap, ◌∙◌, subst, arith}
+use Rattle.std.specs.Prelude.{Bool, false, Result, Ok, Err, IfOk, OnOk, OnErr, None}
+use Rattle.std.proofs.Common.{◌≡◌, ◌++◌, ℕ, List, sym, ap, ◌∙◌, subst, arith}
 use Rattle.mysql_values.specs.declared.value.Value.{Value}
 use Rattle.mysql_values.specs.Literal.{literal_of}
-use Rattle.mysql_named_params.specs.LoweredNames.{lower_names}
-use Rattle.mysql_named_params.specs.Reading.{IsTokensIn, OnWideTokens, wide_reading}
+use Rattle.mysql_named_params.specs.Reading.{OnWideTokens, wide_reading}
 use Rattle.mysql_named_params.specs.declared.places.Reading.{Reading}
-use Rattle.mysql_named_params.proofs.ReadingLemmas.{one_reading}
-use Rattle.mysql_portable.specs.Steady.{IsSteady}
-use Rattle.mysql_portable.specs.FirstUnportableInClient.{IsPortableInClient}
 use Rattle.mysql_params_core.specs.Given.{Given}
 use Rattle.mysql_binding.specs.AppendedText.{AreFound, IsAppended}
 use Rattle.mysql_binding.specs.FirstCause.{mixed_cause}
 use Rattle.mysql_binding.specs.LiteralForm.{IsPlainLiteral, LiteralFacts, Literals}
 use Rattle.mysql_binding.specs.WrittenText.{IsGivenText}
-use Rattle.mysql_binding.proofs.BoundTextLemmas.{is_bound_text}
 use Rattle.mysql_binding.proofs.CauseLemmas.{mixed_none}
 use Rattle.mysql_steady_text.specs.SteadyLiteral.{steady_literal_of}
 use Rattle.mysql_steady_text.specs.SteadyLiterals.{IsSteadyFor}
-use Rattle.mysql_steady_text.specs.SteadyText.{IsSteadyText}
-use Rattle.mysql_steady_text.proofs.WideSteadyLemmas.{is_steady_text_in, is_wide_anywhere_text, wide_other}
 use Rattle.mysql_bind_core.specs.Assignments.{given_of}
-use Rattle.mysql_bind_core.specs.Bound.{IsTaken, IsTextFor}
-use Rattle.mysql_bind_core.specs.FoundPairs.{IsTextAppended}
+use Rattle.mysql_bind_core.specs.Bound.{IsTaken}
+use Rattle.mysql_bind_core.specs.FoundPairs.{IsGivenFor, IsTextAppended}
 use Rattle.mysql_bind_core.specs.Requests.{mode_of}
 use Rattle.mysql_bind_core.specs.declared.taken.appended.Attempt.{Attempt}
 use Rattle.mysql_bind_core.specs.declared.taken.appended.Attempt.TheVariants as attempt
 use Rattle.mysql_bind_core.specs.declared.request.Literals.TheVariants.{Steady, Plain}
-use Rattle.mysql_bind_core.specs.declared.request.Portability.{Portability}
-use Rattle.mysql_bind_core.specs.declared.request.Portability.TheVariants.{Portable, Any}
 use Rattle.mysql_bind_core.specs.declared.request.Request.{Request}
 
 -- ---- what is told of a text that was written or not
@@ -37,23 +28,10 @@ if_done : {A E : Type 0} (r : Result A E) (P : Type 0) → OnOk r P → OnErr r 
 if_done (Ok a) P p n = p
 if_done (Err e) P p n = absurd n
 
-if_undone : {A E : Type 0} (r : Result A E) (P : Type 0) → OnErr r P → OnOk r ⊥ → P
-if_undone (Ok a) P p n = absurd n
-if_undone (Err e) P p n = p
-
 pub done_bound : {A E F : Type 0} (d : Result Attempt F) (r : Result A E) (P Q : Type 0) →
     IfOk d (λ a. a ≡ attempt.Written → OnErr r ⊥) → OnOk r P → (P → Q) → IfOk d (λ a. a ≡ attempt.Written → Q)
 done_bound (Ok done) r P Q h p f = λ t. f (if_done r P p (h t))
 done_bound (Err e) r P Q h p f = tt
-
-pub undone_kept : {A E F : Type 0} (d : Result Attempt F) (r : Result A E) (P : Type 0) →
-    IfOk d (λ a. a ≡ attempt.Left → OnOk r ⊥) → OnErr r P → IfOk d (λ a. a ≡ attempt.Left → P)
-undone_kept (Ok done) r P h p = λ t. if_undone r P p (h t)
-undone_kept (Err e) r P h p = tt
-
-pub refused_kept : {A E F : Type 0} (d : Result Attempt F) (r : Result A E) (P : Type 0) → OnErr d (OnOk r ⊥) → OnErr r P → OnErr d P
-refused_kept (Ok done) r P h p = tt
-refused_kept (Err e) r P h p = if_undone r P p h
 
 pub done_so : {F : Type 0} (d : Result Attempt F) (P Q : Type 0) → (P → Q) →
     IfOk d (λ a. a ≡ attempt.Written → P) → IfOk d (λ a. a ≡ attempt.Written → Q)
@@ -66,33 +44,14 @@ module _ (request : Request) (query : List ℕ) (given : Given) (text : List ℕ
   -- with literals of a mode
   pub plain_for : (mode : Bool) → request.literals ≡ Plain mode →
       OnWideTokens mode query (λ ts. IsGivenText (literal_of mode) (IsPlainLiteral mode) ts given text) →
-      OnWideTokens (mode_of request.literals) query (λ ts. IsTextFor request.literals request.portability ts given text)
-  plain_for mode e o =
-      subst (λ l. OnWideTokens (mode_of l) query (λ ts. IsTextFor l request.portability ts given text)) (sym e)
-      (o.0, o.1, is_bound_text (wide_reading mode) query o.0 given text o.1 o.2)
+      OnWideTokens (mode_of request.literals) query (λ ts. IsGivenFor request.literals ts given text)
+  plain_for mode e o = subst (λ l. OnWideTokens (mode_of l) query (λ ts. IsGivenFor l ts given text)) (sym e) o
 
   -- with steady literals
-  pub steady_for : IsTaken request query → request.literals ≡ Steady →
+  pub steady_for : request.literals ≡ Steady →
       OnWideTokens false query (λ ts. IsGivenText steady_literal_of IsSteadyFor ts given text) →
-      OnWideTokens (mode_of request.literals) query (λ ts. IsTextFor request.literals request.portability ts given text)
-  steady_for taken e o =
-      subst (λ l. OnWideTokens (mode_of l) query (λ ts. IsTextFor l request.portability ts given text)) (sym e) (go request.portability refl)
-    where
-      steady : IsSteady query
-      steady = taken.steady e
-
-      is_true : IsTokensIn (wide_reading true) query o.0
-      is_true = wide_other false true query o.0 steady o.1
-
-      one : IsSteadyText o.0 given text
-      one = is_steady_text_in (wide_reading true) query o.0 given text is_true steady o.2
-
-      go : (p : Portability) → request.portability ≡ p → OnWideTokens false query (λ ts. IsTextFor Steady p ts given text)
-      go Any is = (o.0, o.1, one)
-      go Portable is =
-          let p = subst (λ l. OnWideTokens (mode_of l) query (λ ts. IsPortableInClient (lower_names ts))) e (taken.portable is).0 in
-          let portable : IsPortableInClient (lower_names o.0) = subst (λ ts. IsPortableInClient (lower_names ts)) (one_reading (wide_reading false) query p.0 o.0 p.1 o.1) p.2 in
-          (o.0, o.1, is_wide_anywhere_text query o.0 given text is_true steady portable.portable one)
+      OnWideTokens (mode_of request.literals) query (λ ts. IsGivenFor request.literals ts given text)
+  steady_for e o = subst (λ l. OnWideTokens (mode_of l) query (λ ts. IsGivenFor l ts given text)) (sym e) o
 
 -- a text that is appended to a query as it is surveyed is appended to the query in its mode
 pub appended_as : (literal : Literals) (IsKnown : LiteralFacts) (reading : Reading) (mode : Bool) (seen query : List ℕ) (values : List Value) (before after : List ℕ) →
@@ -106,7 +65,7 @@ module _ (request : Request) (query : List ℕ) (values : List Value) (before af
   -- after these bytes stands the text that is asked for, whatever gives these values
   abbrev pub AppendedFor : Bool → Type 0
   AppendedFor mode = (text : List ℕ) × (after ≡ before ++ text) × ((given : Given) → OnWideTokens mode query (AreFound given values) →
-      OnWideTokens (mode_of request.literals) query (λ ts. IsTextFor request.literals request.portability ts given text))
+      OnWideTokens (mode_of request.literals) query (λ ts. IsGivenFor request.literals ts given text))
 
   pub plain_appended : (mode plain : Bool) → request.literals ≡ Plain plain → mode ≡ mode_of request.literals →
       IsAppended (literal_of plain) (IsPlainLiteral plain) (wide_reading mode) query values before after → AppendedFor mode
@@ -118,13 +77,13 @@ module _ (request : Request) (query : List ℕ) (values : List Value) (before af
             (subst (λ b. OnWideTokens b query (λ ts. IsGivenText (literal_of plain) (IsPlainLiteral plain) ts given a.text)) same (a.of_given given o)),
       )
 
-  pub steady_appended : (mode : Bool) → request.literals ≡ Steady → mode ≡ mode_of request.literals → IsTaken request query →
+  pub steady_appended : (mode : Bool) → request.literals ≡ Steady → mode ≡ mode_of request.literals →
       IsAppended steady_literal_of IsSteadyFor (wide_reading mode) query values before after → AppendedFor mode
-  steady_appended mode e m taken a =
+  steady_appended mode e m a =
       let same : mode ≡ false = m ∙ ap mode_of e in (
         a.text,
         a.bytes,
-        λ given o. steady_for request query given a.text taken e
+        λ given o. steady_for request query given a.text e
             (subst (λ b. OnWideTokens b query (λ ts. IsGivenText steady_literal_of IsSteadyFor ts given a.text)) same (a.of_given given o)),
       )
 
@@ -132,7 +91,7 @@ module _ (request : Request) (query : List ℕ) (values : List Value) (before af
   pub pairs_appended : (pairs : List (List ℕ × Value)) (mode : Bool) →
       ((given : Given) × (given_of pairs ≡ Ok given) × OnWideTokens mode query (AreFound given values)) → AppendedFor mode →
       IsTextAppended request query pairs before after
-  pairs_appended pairs mode f a = record { given = f.0; given_is = f.1; text = a.0; bound = a.2 f.0 f.2; bytes = a.1 }
+  pairs_appended pairs mode f a = (a.0, record { given = f.0; given_is = f.1; bound = a.2 f.0 f.2 }, a.1)
 
 -- a query that is taken has no mark
 pub unmixed : (request : Request) (query : List ℕ) → IsTaken request query → (mode : Bool) → mode ≡ mode_of request.literals →

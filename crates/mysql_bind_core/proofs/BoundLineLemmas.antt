@@ -16,15 +16,12 @@ use Rattle.mysql_named_params.proofs.WideLemmas.{goes_on, opens, plain_case, sta
 use Rattle.mysql_portable.specs.Steady.{holds_no_escape, HoldNoEscapes, is_steady}
 use Rattle.mysql_portable.proofs.OtherModeLemmas.{tokens_before_other}
 use Rattle.mysql_portable.proofs.SteadyLemmas.{steady_tokens}
-use Rattle.mysql_params_core.specs.Given.{Given}
-use Rattle.mysql_binding.specs.Isolation.{IsBoundText}
 use Rattle.mysql_binding.specs.Pieces.{joined_text, pieces}
 use Rattle.mysql_binding.specs.Replaced.{AreLiterals, AreTokensOf, with_literal_tokens}
 use Rattle.mysql_binding.proofs.ReplacedLemmas.{IsLiteral-tokens}
 use Rattle.mysql_binding.proofs.PieceLemmas.{joined_text_count}
 use Rattle.mysql_binding.proofs.SpliceLemmas.{Each, as_many_lists}
 use Rattle.mysql_steady_text.specs.SteadyLiterals.{AreSteadyLiterals}
-use Rattle.mysql_steady_text.specs.SteadyText.{IsSteadyText}
 use Rattle.mysql_steady_text.proofs.SteadySpliceLemmas.{steady_isolated}
 use Rattle.mysql_steady_text.proofs.SteadyTextLemmas.{shapes_in}
 use Rattle.mysql_steady_text.proofs.WideSteadyLemmas.{with_literal_tokens-lowered}
@@ -206,27 +203,6 @@ replaced_closed mode ts lists h n k e =
 pub places_filled : (mode : Bool) (ts : List Token) (texts : List (List ℕ)) (lists : List (List Token)) (text : List ℕ) → AreTokensOf mode texts lists →
     joined_text (pieces ts) texts ≡ Some text → length lists ≡ place_count ts
 places_filled mode ts texts lists text t e = as_many_lists mode texts lists t ∙ joined_text_count [] ts texts text e
-
-pub plain_line : (mode : Bool) (ts : List Token) (given : Given) (text : List ℕ) → IsClosedLowered mode ts →
-    IsBoundText mode ts given text → HasLine mode text
-plain_line mode ts given text c b = record {
-  tokens = with_literal_tokens ts b.literal_tokens;
-  is = b.isolated;
-  closed = replaced_closed mode ts b.literal_tokens c (places_filled mode ts b.literals b.literal_tokens text b.tokens_of_literals b.text_is) b.isolated.each
-      (closed_literals mode b.literals b.literal_tokens b.shapes b.tokens_of_literals);
-}
-
-pub steady_line : (ts : List Token) (given : Given) (text : List ℕ) → IsClosedLowered false ts →
-    IsSteadyText ts given text → (mode : Bool) → HasLine mode text
-steady_line ts given text c b mode =
-    let us : List Token = with_literal_tokens ts b.literal_tokens in
-    let closed : EndClosed false us = replaced_closed false ts b.literal_tokens c (places_filled false ts b.literals b.literal_tokens text (b.tokens_of_literals false) b.text_is) (b.isolated false).each
-    (closed_steady false b.literals b.literal_tokens (shapes_in b) (b.tokens_of_literals false)) in
-    record {
-      tokens = us;
-      is = b.isolated mode;
-      closed = closed_other mode us (steady_tokens us (subst (λ x. list_all is_steady x ≡ true) (sym (b.isolated false).text) b.steady)) closed;
-    }
 
 -- the tokens of an expanded query, in which no names are left
 pub expanded_closed : (mode : Bool) (ts : List Token) (given : GivenFragments) (text : List ℕ) →

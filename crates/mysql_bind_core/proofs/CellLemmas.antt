@@ -1,14 +1,17 @@
 -- What cells assign: assignments that say the same are bound and refused alike, and the pairs of
 -- those that say what cells do are the names of the columns with the values of the cells.
 use Rattle.std.specs.Prelude.{Option, Some, Bool, true, false, option_map, option_and_then, if◌then◌else◌}
-use Rattle.std.proofs.Common.{◌≡◌, ◌∙◌, ℕ, List, [], ◌∷◌, map, refl, sym, ap, ◌||◌}
+use Rattle.std.proofs.Common.{◌≡◌, ◌∙◌, ℕ, List, [], ◌∷◌, map, refl, sym, ap, subst, ◌||◌}
 use Rattle.mysql_values.specs.declared.value.Value.{Value}
+use Rattle.mysql_named_params.specs.Places.{names}
+use Rattle.mysql_fragments.specs.GivenFragments.{FragmentMap}
 use Rattle.mysql_bind_core.specs.Assignments.{pair_of, pairs_of}
-use Rattle.mysql_bind_core.specs.Bound.{IsAssignedText, IsWritten, of_values, of_fragments}
-use Rattle.mysql_bind_core.specs.Cells.{Said, assignment_said, cell_value, cells_said, lent_typed_value}
+use Rattle.mysql_bind_core.specs.Bound.{IsAssignedText, IsWritten}
+use Rattle.mysql_bind_core.specs.Cells.{Said, assignment_said, cell_value, cells_said}
 use Rattle.mysql_bind_core.specs.Contents.{Content, content, contents_of, has_fragment, is_value_type, named_content}
+use Rattle.mysql_bind_core.specs.Entries.{IsAskedText, given_to}
 use Rattle.mysql_bind_core.specs.Refusals as refusal
-use Rattle.mysql_bind_core.specs.Refusals.{IsAssignmentsRefusal, IsContentsRefusal, IsFragmentsTextRefusal, IsRefusal, IsValuesRefusal}
+use Rattle.mysql_bind_core.specs.Refusals.{IsContentsRefusal, IsFragmentsRefusal, IsRefusal}
 use Rattle.mysql_bind_core.specs.ValueTypes.{typed_value}
 use Rattle.mysql_bind_core.specs.declared.assignment.Assignment.{Assignment}
 use Rattle.mysql_bind_core.specs.declared.cell.Cell.{Cell}
@@ -33,17 +36,6 @@ said_fragment s = if is_value_type s.1.0 then false else true
 pub heads : {X : Type 0} (x y : X) (xs ys : List X) → x ∷ xs ≡ y ∷ ys → (x ≡ y) × (xs ≡ ys)
 heads x y xs ys e = (cc, cc)
 
-same_pairs : (assigned bs : List Assignment) → map assignment_said assigned ≡ map assignment_said bs → pairs_of assigned ≡ pairs_of bs
-same_pairs [] [] e = refl
-same_pairs [] (b ∷ bs) e = absurd cc
-same_pairs (a ∷ assigned) [] e = absurd cc
-same_pairs (a ∷ assigned) (b ∷ bs) e =
-    let h = heads (assignment_said a) (assignment_said b) (map assignment_said assigned) (map assignment_said bs) e in
-    let one : pair_of a ≡ pair_of b = ap said_pair h.0 in
-    let more = same_pairs assigned bs h.1 in
-    ap (λ o. option_and_then (λ pair. option_map (λ pairs. pair ∷ pairs) (pairs_of assigned)) o) one
-    ∙ ap (λ o. option_and_then (λ pair. option_map (λ pairs. pair ∷ pairs) o) (pair_of b)) more
-
 same_contents : (assigned bs : List Assignment) → map assignment_said assigned ≡ map assignment_said bs → contents_of assigned ≡ contents_of bs
 same_contents [] [] e = refl
 same_contents [] (b ∷ bs) e = absurd cc
@@ -55,49 +47,42 @@ same_contents (a ∷ assigned) (b ∷ bs) e =
     ap (λ o. option_and_then (λ y. option_map (λ ys. y ∷ ys) (contents_of assigned)) o) one
     ∙ ap (λ o. option_and_then (λ y. option_map (λ ys. y ∷ ys) o) (named_content b)) more
 
-same_kinds : (assigned bs : List Assignment) → map assignment_said assigned ≡ map assignment_said bs → has_fragment assigned ≡ has_fragment bs
-same_kinds [] [] e = refl
-same_kinds [] (b ∷ bs) e = absurd cc
-same_kinds (a ∷ assigned) [] e = absurd cc
-same_kinds (a ∷ assigned) (b ∷ bs) e =
-    let h = heads (assignment_said a) (assignment_said b) (map assignment_said assigned) (map assignment_said bs) e in
-    ap (λ k. k || has_fragment assigned) (ap said_fragment h.0)
-    ∙ ap (λ k. said_fragment (assignment_said b) || k) (same_kinds assigned bs h.1)
+-- assignments that say the same have the same fragments for a query
+same_given : (assigned bs : List Assignment) → map assignment_said assigned ≡ map assignment_said bs → (entries : FragmentMap) (ns : List (List ℕ)) →
+    given_to assigned entries ns ≡ given_to bs entries ns
+same_given [] [] e entries ns = refl
+same_given [] (b ∷ bs) e entries ns = absurd cc
+same_given (a ∷ assigned) [] e entries ns = absurd cc
+same_given (a ∷ assigned) (b ∷ bs) e entries ns = refl
 
 module _ (request : Request) (query : List ℕ) (assigned bs : List Assignment) (e : map assignment_said assigned ≡ map assignment_said bs) where
   pub same_assigned : (text : List ℕ) → IsAssignedText request query assigned text → IsAssignedText request query bs text
-  same_assigned text (of_values k v) =
-      of_values (sym (same_kinds assigned bs e) ∙ k)
-      (record { pairs = v.pairs; given = v.given; pairs_are = sym (same_pairs assigned bs e) ∙ v.pairs_are; given_is = v.given_is; bound = v.bound })
-  same_assigned text (of_fragments k f) =
-      of_fragments (sym (same_kinds assigned bs e) ∙ k)
-      (record { pairs = f.pairs; entries = f.entries; contents_are = sym (same_contents assigned bs e) ∙ f.contents_are; entries_are = f.entries_are; bound = f.bound })
+  same_assigned text x = record {
+    pairs = x.pairs;
+    entries = x.entries;
+    contents_are = sym (same_contents assigned bs e) ∙ x.contents_are;
+    entries_are = x.entries_are;
+    bound = (
+      x.bound.0,
+      x.bound.1,
+      subst (λ given. IsAskedText request.literals x.bound.0 given text) (same_given assigned bs e x.entries (names x.bound.0)) x.bound.2,
+    );
+  }
 
   pub same_written : (text : List ℕ) → IsWritten request query assigned text → IsWritten request query bs text
   same_written text w = record { taken = w.taken; assigned = same_assigned text w.assigned; portable_text = w.portable_text }
-
-  same_nothing : (why : Failure) → IsAssignmentsRefusal assigned why → IsAssignmentsRefusal bs why
-  same_nothing failure.NoValue r = sym (same_pairs assigned bs e) ∙ r
-  same_nothing (failure.Memory error) r = tt
-  same_nothing why r = (r.0, sym (same_pairs assigned bs e) ∙ r.1, r.2)
 
   same_no_fragments : (why : Failure) → IsContentsRefusal assigned why → IsContentsRefusal bs why
   same_no_fragments failure.NoValue r = sym (same_contents assigned bs e) ∙ r
   same_no_fragments (failure.Memory error) r = tt
   same_no_fragments why r = (r.0, sym (same_contents assigned bs e) ∙ r.1, r.2)
 
-  same_values_refusal : (why : Failure) → IsValuesRefusal request query assigned why → IsValuesRefusal request query bs why
-  same_values_refusal why (refusal.of_assignments r) = refusal.of_assignments (same_nothing why r)
-  same_values_refusal why (refusal.of_text pairs given p g r) = refusal.of_text pairs given (sym (same_pairs assigned bs e) ∙ p) g r
-
-  same_fragments_refusal : (why : Failure) → IsFragmentsTextRefusal request query assigned why → IsFragmentsTextRefusal request query bs why
-  same_fragments_refusal why (refusal.of_contents r) = refusal.of_contents (same_no_fragments why r)
-  same_fragments_refusal why (refusal.of_named pairs entries p g r) = refusal.of_named pairs entries (sym (same_contents assigned bs e) ∙ p) g r
-
   pub same_refusal : (why : Failure) → IsRefusal request query assigned why → IsRefusal request query bs why
   same_refusal why (refusal.of_query r) = refusal.of_query r
-  same_refusal why (refusal.of_values taken k r) = refusal.of_values taken (sym (same_kinds assigned bs e) ∙ k) (same_values_refusal why r)
-  same_refusal why (refusal.of_fragments taken k r) = refusal.of_fragments taken (sym (same_kinds assigned bs e) ∙ k) (same_fragments_refusal why r)
+  same_refusal why (refusal.of_contents taken r) = refusal.of_contents taken (same_no_fragments why r)
+  same_refusal why (refusal.of_fragments taken pairs entries p g r) =
+      refusal.of_fragments taken pairs entries (sym (same_contents assigned bs e) ∙ p) g
+      (r.0, r.1, subst (λ given. IsFragmentsRefusal request.literals r.0 given why) (same_given assigned bs e entries (names r.0)) r.2)
   same_refusal why (refusal.of_bound_text taken text a found is f) = refusal.of_bound_text taken text (same_assigned text a) found is f
 
 -- ---- names and the values of their cells
@@ -124,12 +109,6 @@ valued Decimal bytes v e = absurd cc
 valued Double bytes v e = absurd cc
 valued Identifier bytes v e = absurd cc
 valued ListType bytes v e = absurd cc
-
--- a value of bytes that aren't decoded is the value of the bytes
-pub lent_typed : (t : ValueType) (bytes : List ℕ) (v : Value) → lent_typed_value t bytes ≡ Some v → typed_value t bytes ≡ Some v
-lent_typed Hex bytes v e = absurd cc
-lent_typed Base64 bytes v e = absurd cc
-lent_typed t bytes v e = e
 
 abbrev AreValues : List Cell → List Value → Type 0
 AreValues cells values = map cell_value cells ≡ map (λ value. Some value) values

@@ -10,10 +10,7 @@ use Rattle.mysql_portable.specs.Quiet.{IsHonest}
 use Rattle.mysql_portable.specs.Steady.{IsSteady}
 use Rattle.mysql_portable.proofs.ClientLemmas.{reads_as_server, read_as_server}
 use Rattle.mysql_portable.proofs.SteadyLemmas.{steady_other, steady_other_on}
-use Rattle.mysql_params_core.specs.Given.{Given}
-use Rattle.mysql_fragments.specs.GivenFragments.{GivenFragments, named}
-use Rattle.mysql_bind_core.specs.Bound.{IsAssignedText, IsTextFor, IsTextPortableIfWanted, of_fragments, of_values}
-use Rattle.mysql_bind_core.specs.Entries.{IsFragmentsFor}
+use Rattle.mysql_bind_core.specs.Bound.{IsAssignedText, IsTextPortableIfWanted}
 use Rattle.mysql_bind_core.specs.Requests.{IsReadIn, mode_of}
 use Rattle.mysql_bind_core.specs.RowItems.{RowsSaid}
 use Rattle.mysql_bind_core.specs.RowsBound.{IsRowsText}
@@ -21,30 +18,14 @@ use Rattle.mysql_bind_core.specs.TakenQuery.{RequestedQuery}
 use Rattle.mysql_bind_core.specs.declared.assignment.Assignment.{Assignment}
 use Rattle.mysql_bind_core.specs.declared.request.Literals.{Literals}
 use Rattle.mysql_bind_core.specs.declared.request.Literals.TheVariants as literals
-use Rattle.mysql_bind_core.specs.declared.request.Portability.{Portability}
 use Rattle.mysql_bind_core.specs.declared.request.Portability.TheVariants as portability
 use Rattle.mysql_bind_core.specs.declared.request.Request.{Request}
 
 -- ---- steady texts
 
-pub values_steady : (asked : Literals) (wanted : Portability) (ts : List Token) (given : Given) (text : List ℕ) → asked ≡ literals.Steady →
-    IsTextFor asked wanted ts given text → IsSteady text
-values_steady literals.Steady portability.Portable ts given text e b = b.steady_text.steady
-values_steady literals.Steady portability.Any ts given text e b = b.steady
-values_steady (literals.Plain mode) wanted ts given text e b = absurd cc
-
-pub fragments_steady : (asked : Literals) (wanted : Portability) (ts : List Token) (given : GivenFragments) (text : List ℕ) → asked ≡ literals.Steady →
-    IsFragmentsFor asked wanted ts given text → IsSteady text
-fragments_steady literals.Steady portability.Portable ts given text e b = b.steady_text.bound.steady
-fragments_steady literals.Steady portability.Any ts given text e b = b.bound.steady
-fragments_steady (literals.Plain mode) wanted ts given text e b = absurd cc
-
 pub assigned_steady : (request : Request) (query : List ℕ) (assignments : List Assignment) (text : List ℕ) → request.literals ≡ literals.Steady →
     IsAssignedText request query assignments text → IsSteady text
-assigned_steady request query assignments text e (of_values none x) =
-    values_steady request.literals request.portability x.bound.0 x.given text e x.bound.2
-assigned_steady request query assignments text e (of_fragments some x) =
-    fragments_steady request.literals request.portability x.bound.0 (named x.entries) text e x.bound.2
+assigned_steady request query assignments text e x = x.bound.2.steady e
 
 -- ---- in each mode
 
@@ -107,4 +88,4 @@ pub rows_portable_in_each : (query : RequestedQuery) (fixed : List Assignment) (
     IsPortableInOwn query.request text → IsTextPortableIfWanted query.request text
 rows_portable_in_each query fixed rows text x p e mode r =
     tokens_in query.request.literals mode r text
-    (λ s. fragments_steady query.request.literals query.request.portability x.bound.0 (named x.entries) text s x.bound.2) IsPortableInClient (p e)
+    (λ s. x.bound.2.steady s) IsPortableInClient (p e)

@@ -2,44 +2,42 @@
 use Rattle.std.specs.Prelude.{Bool}
 use Rattle.std.proofs.Common.{◌≡◌, ◌++◌, ℕ, true, false, List, [], ◌∷◌, None, Some, map, subst, sym}
 use Rattle.mysql_named_params.specs.LoweredNames.{lower_names}
+use Rattle.mysql_named_params.specs.Places.{names}
 use Rattle.mysql_named_params.specs.Reading.{IsTokensIn, wide_reading}
 use Rattle.mysql_named_params.specs.Tokens.{Token, IsTokens, text_of, text_then, Plain}
 use Rattle.mysql_named_params.proofs.TokenListLemmas.{one_token_list}
 use Rattle.mysql_named_params.proofs.TokenRowLemmas.{text_then-append}
 use Rattle.mysql_portable.specs.Portable.{AreReadAlikeBefore}
 use Rattle.mysql_portable.proofs.SteadyLemmas.{steady_other}
-use Rattle.mysql_params_core.specs.Given.{Given}
-use Rattle.mysql_binding.specs.Isolation.{IsBoundText}
 use Rattle.mysql_binding.specs.Pieces.{joined_text, pieces}
 use Rattle.mysql_binding.specs.Replaced.{AreLiterals, AreTokensOf, with_literal_tokens}
 use Rattle.mysql_binding.specs.StandsAlone.{first_not_alone}
 use Rattle.mysql_binding.proofs.BoundOnServerLemmas.{bound_portable}
 use Rattle.mysql_binding.proofs.ReplacedLemmas.{isolated}
 use Rattle.mysql_steady_text.specs.SteadyLiterals.{AreSteadyLiterals}
-use Rattle.mysql_steady_text.specs.SteadyText.{IsSteadyText}
 use Rattle.mysql_steady_text.proofs.SteadyClientLemmas.{bound_alone}
 use Rattle.mysql_steady_text.proofs.SteadySpliceLemmas.{steady_isolated, steady_portable}
 use Rattle.mysql_steady_text.proofs.SteadyTextLemmas.{shapes_in}
 use Rattle.mysql_fragments.specs.Expanded.{IsBoundFragments}
 use Rattle.mysql_fragments.specs.FragmentShape.{AreFragments}
 use Rattle.mysql_fragments.specs.FragmentText.{fragment_text, mark_number}
-use Rattle.mysql_fragments.specs.GivenFragments.{GivenFragments, named}
+use Rattle.mysql_fragments.specs.GivenFragments.{GivenFragments}
 use Rattle.mysql_fragments.specs.SteadyFragments.{IsSteadyFragments}
 use Rattle.mysql_fragments.proofs.ExpandedLemmas.{expanded_alone, expanded_shapes}
 use Rattle.mysql_fragments.proofs.SplicedFragmentLemmas.{fragments_isolated, fragments_portable}
-use Rattle.mysql_bind_core.specs.Bound.{IsAssignedText, IsTaken, IsTextFor, of_fragments, of_values}
-use Rattle.mysql_bind_core.specs.Entries.{IsFragmentsFor}
+use Rattle.mysql_bind_core.specs.Bound.{IsAssignedText, IsTaken}
+use Rattle.mysql_bind_core.specs.Entries.{IsAskedText, given_to}
 use Rattle.mysql_bind_core.specs.QueryEnd.{end}
 use Rattle.mysql_bind_core.specs.Requests.{IsReadIn, mode_of}
 use Rattle.mysql_bind_core.specs.ScriptTokens.{semicolon, with_newline}
 use Rattle.mysql_bind_core.specs.declared.assignment.Assignment.{Assignment}
 use Rattle.mysql_bind_core.specs.declared.request.Literals.{Literals}
 use Rattle.mysql_bind_core.specs.declared.request.Literals.TheVariants as literals
-use Rattle.mysql_bind_core.specs.declared.request.Portability.{Portability}
 use Rattle.mysql_bind_core.specs.declared.request.Portability.TheVariants as portability
 use Rattle.mysql_bind_core.specs.declared.request.Request.{Request}
-use Rattle.mysql_bind_core.proofs.BoundLineLemmas.{HasLine, IsClosedLowered, closed_lowered, expanded_closed, fragments_line, plain_line, steady_fragments_line, steady_line}
+use Rattle.mysql_bind_core.proofs.BoundLineLemmas.{HasLine, IsClosedLowered, closed_lowered, expanded_closed, fragments_line, steady_fragments_line}
 use Rattle.mysql_bind_core.proofs.EndedTokenLemmas.{alone_with_end, ended_tokens, joined_ended, lowered_ended, with_end}
+use Rattle.mysql_bind_core.proofs.FragmentTextLemmas.{IsBoundFor, bound_for}
 use Rattle.mysql_bind_core.proofs.LineLemmas.{EndClosed}
 use Rattle.mysql_bind_core.proofs.LoweredTextLemmas.{low_alone, low_joined}
 
@@ -91,22 +89,6 @@ record IsEnded (mode : Bool) (query : List ℕ) (ts : List Token) : Type 0 where
   low : IsClosedLowered mode ts
   alike : AreReadAlikeBefore [] (with_end (lower_names ts))
 
-plain_alike : (mode : Bool) (query text : List ℕ) (ts vs : List Token) (given : Given) → IsEnded mode query ts →
-    IsBoundText mode ts given text → IsTokens mode text vs → AreReadAlikeBefore [] (with_end vs)
-plain_alike mode query text ts vs given q b v =
-    with_literals mode (text_of (lower_names ts)) text (lower_names ts) q.low.is q.low.closed q.alike vs v
-    (closed_of mode text (plain_line mode ts given text q.low b) vs v)
-    b.literals b.literal_tokens b.shapes b.tokens_of_literals (low_joined ts b.literals text b.text_is)
-
-steady_alike : (mode : Bool) (query text : List ℕ) (ts vs : List Token) (given : Given) → IsEnded false query ts →
-    IsSteadyText ts given text → IsTokens mode text vs → AreReadAlikeBefore [] (with_end vs)
-steady_alike mode query text ts vs given q b v =
-    let own : IsTokens false text vs = steady_other mode false text vs b.steady v in
-    with_steady false (text_of (lower_names ts)) text (lower_names ts) q.low.is q.low.closed q.alike vs own
-    (closed_of false text (steady_line ts given text q.low b false) vs own)
-    b.literals b.literal_tokens (low_alone false query ts q.is (bound_alone ts given text b)) (shapes_in b) (b.tokens_of_literals false)
-    (low_joined ts b.literals text b.text_is)
-
 fragments_alike : (mode : Bool) (query text : List ℕ) (ts vs : List Token) (given : GivenFragments) → IsEnded mode query ts →
     IsBoundFragments mode ts given text → IsTokens mode text vs → AreReadAlikeBefore [] (with_end vs)
 fragments_alike mode query text ts vs given q b v =
@@ -135,20 +117,11 @@ steady_fragments_alike mode query text ts vs given q b v =
     (closed_of false text (steady_fragments_line ts given text q.low b false) vs own)
     b.bound.literals b.bound.literal_tokens (bound_alone us _ text b.bound) (shapes_in b.bound) (b.bound.tokens_of_literals false) b.bound.text_is
 
-values_alike : (asked : Literals) (wanted : Portability) (query text : List ℕ) (ts vs : List Token) (given : Given) (mode : Bool) →
-    IsReadIn asked mode → IsEnded (mode_of asked) query ts → IsTextFor asked wanted ts given text → IsTokens mode text vs →
+named_alike : (asked : Literals) (query text : List ℕ) (ts vs : List Token) (given : GivenFragments) (mode : Bool) →
+    IsReadIn asked mode → IsEnded (mode_of asked) query ts → IsBoundFor asked ts given text → IsTokens mode text vs →
     AreReadAlikeBefore [] (with_end vs)
-values_alike literals.Steady portability.Portable query text ts vs given mode r q b v = steady_alike mode query text ts vs given q b.steady_text v
-values_alike literals.Steady portability.Any query text ts vs given mode r q b v = steady_alike mode query text ts vs given q b v
-values_alike (literals.Plain own) wanted query text ts vs given mode r q b v =
-    plain_alike own query text ts vs given q b (subst (λ m. IsTokens m text vs) (sym r) v)
-
-named_alike : (asked : Literals) (wanted : Portability) (query text : List ℕ) (ts vs : List Token) (given : GivenFragments) (mode : Bool) →
-    IsReadIn asked mode → IsEnded (mode_of asked) query ts → IsFragmentsFor asked wanted ts given text → IsTokens mode text vs →
-    AreReadAlikeBefore [] (with_end vs)
-named_alike literals.Steady portability.Portable query text ts vs given mode r q b v = steady_fragments_alike mode query text ts vs given q b.steady_text v
-named_alike literals.Steady portability.Any query text ts vs given mode r q b v = steady_fragments_alike mode query text ts vs given q b v
-named_alike (literals.Plain own) wanted query text ts vs given mode r q b v =
+named_alike literals.Steady query text ts vs given mode r q b v = steady_fragments_alike mode query text ts vs given q b v
+named_alike (literals.Plain own) query text ts vs given mode r q b v =
     fragments_alike own query text ts vs given q b (subst (λ m. IsTokens m text vs) (sym r) v)
 
 -- ---- written texts
@@ -168,17 +141,13 @@ module _ (request : Request) (query : List ℕ) (taken : IsTaken request query) 
       }
 
   pub line_of_fragments : (ts : List Token) (given : GivenFragments) → IsTokensIn (wide_reading (mode_of request.literals)) query ts →
-      IsFragmentsFor request.literals request.portability ts given text → AreReadAlikeBefore (semicolon ∷ []) (with_newline vs)
+      IsAskedText request.literals ts given text → AreReadAlikeBefore (semicolon ∷ []) (with_newline vs)
   line_of_fragments ts given is b =
       alike_front (with_newline vs) (Plain semicolon ∷ []) []
-      (named_alike request.literals request.portability query text ts vs given mode r (ended_query ts is) b v)
+      (named_alike request.literals query text ts vs given mode r (ended_query ts is) (bound_for request.literals query text ts given is b) v)
 
   pub line_of_text : (assignments : List Assignment) → IsAssignedText request query assignments text →
       AreReadAlikeBefore (semicolon ∷ []) (with_newline vs)
-  line_of_text assignments (of_values none x) =
+  line_of_text assignments x =
       let o = x.bound in
-      alike_front (with_newline vs) (Plain semicolon ∷ []) []
-      (values_alike request.literals request.portability query text o.0 vs x.given mode r (ended_query o.0 o.1) o.2 v)
-  line_of_text assignments (of_fragments some x) =
-      let o = x.bound in
-      line_of_fragments o.0 (named x.entries) o.1 o.2
+      line_of_fragments o.0 (given_to assignments x.entries (names o.0)) o.1 o.2

@@ -23,12 +23,6 @@ refused_stays name (pair ∷ pairs) = refused_stays name pairs
 -- one more pair
 module _ (front : List (Bor (List ℕ) × Fragment)) (pair : Bor (List ℕ) × Fragment) (entries : FragmentMap)
     (so_far : entries_of (map pair_seen front) ≡ Ok entries) where
-  pub entries_of-more : entries_of (map pair_seen (front ++ pair ∷ [])) ≡ with_fragment (Ok entries) (pair_seen pair)
-  entries_of-more =
-      ap entries_of (map-append pair_seen front (pair ∷ []))
-      ∙ fold-append with_fragment (Ok finite.empty) (map pair_seen front) (pair_seen pair ∷ [])
-      ∙ ap (λ r. with_fragment r (pair_seen pair)) so_far
-
   -- whatever follows a pair that is refused, all are refused as it is
   all_refused : (rest : List (Bor (List ℕ) × Fragment)) (made : Entries) → with_fragment (Ok entries) (pair_seen pair) ≡ made
       → entries_of (map pair_seen (front ++ pair ∷ rest)) ≡ fold with_fragment made (map pair_seen rest)

@@ -1,8 +1,7 @@
 -- With fewer rows a text is portable in a client too.
 use Rattle.std.specs.Prelude.{Bool, codes}
 use Rattle.std.specs.Global.{Vec}
-use Rattle.std.specs.List.{list_any}
-use Rattle.std.proofs.Common.{◌≡◌, ◌∙◌, ◌+◌, ◌++◌, ◌<◌, ℕ, true, false, List, [], ◌∷◌, length, map, arith, None, Some, Ok, option_map, refl, sym, ap, subst, append-nil}
+use Rattle.std.proofs.Common.{◌≡◌, ◌∙◌, ◌+◌, ◌++◌, ℕ, true, List, [], ◌∷◌, length, map, None, Some, Ok, option_map, refl, sym, ap, subst, append-nil}
 use Rattle.mysql_sql_text.specs.StringUnits.{with_backslashes}
 use Rattle.mysql_values.specs.declared.value.Value.{Value}
 use Rattle.mysql_values.specs.Literal.{literal_of}
@@ -27,101 +26,42 @@ use Rattle.mysql_fragments.specs.FragmentErrors.{first_fault_from}
 use Rattle.mysql_fragments.specs.FragmentFaults.{fault_of, rows_fault}
 use Rattle.mysql_fragments.specs.FragmentText.{all_values, fragment_text, fragment_values, joined, mark, mark_number, row_text}
 use Rattle.mysql_fragments.specs.GivenFragments.{FragmentMap, GivenFragments, fragments_for, named}
+use Rattle.mysql_fragments.specs.SteadyFragments.{IsSteadyFragments}
 use Rattle.mysql_fragments.specs.declared.fragment.Item.{Item}
 use Rattle.mysql_fragments.specs.declared.fragment.Fragment.{Fragment}
 use Rattle.mysql_fragments.specs.declared.fragment.Fragment.TheVariants as one
 use Rattle.mysql_fragments.proofs.ExpandedLemmas.{expanded_alone, expanded_nameless, expanded_parts, expanded_shapes}
 use Rattle.mysql_fragments.proofs.SplicedFragmentLemmas.{fragments_portable}
-use Rattle.mysql_bind_core.specs.Contents.{item_said}
-use Rattle.mysql_bind_core.specs.Entries.{IsFragmentsFor}
+use Rattle.mysql_fragments.proofs.SteadyFragmentLemmas.{portable_expanded}
+use Rattle.mysql_bind_core.specs.Entries.{IsAskedText}
 use Rattle.mysql_bind_core.specs.Requests.{mode_of}
-use Rattle.mysql_bind_core.specs.RowItems.{RowsSaid, rows_said}
-use Rattle.mysql_bind_core.specs.UniqueGroups.{is_double_item}
 use Rattle.mysql_bind_core.specs.declared.request.Literals.{Literals}
 use Rattle.mysql_bind_core.specs.declared.request.Literals.TheVariants as literals
-use Rattle.mysql_bind_core.specs.declared.request.Portability.TheVariants as portability
-use Rattle.mysql_bind_core.proofs.FewerEntryLemmas.{AreLessByName, AreLessFragments, IsLess, less_places}
-use Rattle.mysql_bind_core.proofs.FewerRowLemmas.{Fewer, Full, all_decides, fewer_none, fewer_rows, full, full_valued, full_written, is_full_valued, is_full_written, not_any, rows_are_valued, rows_are_written, rows_valued, rows_written, told_rows}
+use Rattle.mysql_bind_core.proofs.FewerEntryLemmas.{AreLessByName, AreLessFragments, less_places}
+use Rattle.mysql_bind_core.proofs.FewerRowLemmas.{IsLess, less_rows, less_same}
 use Rattle.mysql_bind_core.proofs.FewerSentLemmas.{AreLeft, left_end, left_opener, left_same, left_sent}
 use Rattle.mysql_bind_core.proofs.FewerTextLemmas.{both_found, written_all}
-use Rattle.mysql_bind_core.proofs.FewerTokenLemmas.{PlaceLeft, all_marked, all_tokens, left_place, literals_are, place_by, place_is, place_same, place_tokens, placed, row_values, rows_left}
+use Rattle.mysql_bind_core.proofs.FewerTokenLemmas.{PlaceLeft, all_marked, all_tokens, left_place, literal_lists, literals_are, place_by, place_is, place_same, place_tokens, placed, row_values, rows_left, tk}
+use Rattle.mysql_bind_core.proofs.FragmentTextLemmas.{IsBoundFor, bound_for}
 use Rattle.mysql_bind_core.proofs.LoweredTextLemmas.{low_alone, low_joined, low_replaced, low_tokens}
 
 -- ---- one place
 
--- a fragment with the content of rows is one of rows
-rows_of : (f : Fragment) (rs : RowsSaid) → full f ≡ told_rows rs → (xs : Vec (Vec Item)) × (f ≡ one.Rows xs) × (rows_said xs.items ≡ rs)
-rows_of (one.Rows xs) rs e = (xs, refl, cc)
-rows_of (one.Value v) rs e = cc
-rows_of (one.Decimal text) rs e = cc
-rows_of (one.Double x) rs e = cc
-rows_of (one.List xs) rs e = cc
-rows_of (one.Identifier name) rs e = cc
-rows_of (one.Qualified names) rs e = cc
-rows_of (one.Keyword word) rs e = cc
-rows_of (one.Identifiers columns) rs e = cc
-rows_of (one.Assignments assignments) rs e = cc
-
--- the rows that say the first part, and those that say the second
-split_rows : (qs : List (Vec Item)) (rs more : RowsSaid) → rows_said qs ≡ rs ++ more →
-    (front : List (Vec Item)) × (back : List (Vec Item)) × (qs ≡ front ++ back) × (rows_said front ≡ rs) × (rows_said back ≡ more)
-split_rows qs [] more e = ([], qs, refl, refl, e)
-split_rows [] (r ∷ rs) more e = cc
-split_rows (q ∷ qs) (r ∷ rs) more e =
-    let first : map item_said q.items ≡ r = cc in
-    let later : rows_said qs ≡ rs ++ more = cc in
-    let s = split_rows qs rs more later in
-    (q ∷ s.0, s.1, (λ i. q ∷ s.2 i), (λ i. first i ∷ s.3 i), s.4)
-
-same_texts : (xs ys : List (Vec Item)) → list_any (list_any is_double_item) (rows_said xs) ≡ false → rows_said xs ≡ rows_said ys → map row_text xs ≡ map row_text ys
-same_texts xs ys d e =
-    rows_are_written mark xs d
-    ∙ (ap (rows_written mark) e ∙ sym (rows_are_written mark ys (subst (λ r. list_any (list_any is_double_item) r ≡ false) e d)))
-
-same_values : (xs ys : List (Vec Item)) → rows_said xs ≡ rows_said ys → row_values xs ≡ row_values ys
-same_values xs ys e = rows_are_valued xs ∙ (ap rows_valued e ∙ sym (rows_are_valued ys))
-
 module _ (mode : Bool) (write : Value → List ℕ) where
-  module _ (f g : Fragment) (h : IsLess f g) (none : fault_of g ≡ None) where
-    same_place : full f ≡ full g → PlaceLeft (place_tokens mode write f) (place_tokens mode write g)
-    same_place e =
-        let text : fragment_text f ≡ fragment_text g = is_full_written mark f h.first ∙ (ap (full_written mark) e ∙ sym (is_full_written mark g h.second)) in
-        let values : fragment_values f ≡ fragment_values g = is_full_valued f h.first ∙ (ap full_valued e ∙ sym (is_full_valued g h.second)) in
-        let left = place_is mode write f (fragment_text g) (fragment_values g) text values in
-        let right = place_is mode write g (fragment_text g) (fragment_values g) refl refl in
-        subst (PlaceLeft (place_tokens mode write f)) (left ∙ sym right) (place_same (place_tokens mode write f))
+  rows_place : (xs : Vec (Vec Item)) (qs : List (Vec Item)) → map row_text xs.items ≡ map row_text qs → row_values xs.items ≡ row_values qs →
+      place_tokens mode write (one.Rows xs) ≡ with_literal_tokens (tk mode (joined (codes ", ") (map row_text qs))) (literal_lists mode write (row_values qs))
+  rows_place xs qs text values = place_is mode write (one.Rows xs) (joined (codes ", ") (map row_text qs)) (row_values qs) (ap (joined (codes ", ")) text) values
 
-    less_rows : (rs more : RowsSaid) → 0 < length rs → full f ≡ told_rows rs → full g ≡ told_rows (rs ++ more) → PlaceLeft (place_tokens mode write f) (place_tokens mode write g)
-    less_rows rs more some ef eg =
-        let a = rows_of f rs ef in
-        let b = rows_of g (rs ++ more) eg in
-        let s = split_rows b.0.items rs more b.2 in
-        let fault : rows_fault (s.0 ++ s.1) ≡ None = ap rows_fault (sym s.2) ∙ (sym (ap fault_of b.1) ∙ none) in
-        let single : list_any (list_any is_double_item) rs ≡ false = not_any _ (sym (ap all_decides ef) ∙ h.first) in
-        go s.0 s.1 a.0 b.0 a.1 a.2 b.1 s.2 s.3 s.4 fault single
-      where
-        go : (front back : List (Vec Item)) (xs ys : Vec (Vec Item)) → f ≡ one.Rows xs → rows_said xs.items ≡ rs → g ≡ one.Rows ys → ys.items ≡ front ++ back →
-            rows_said front ≡ rs → rows_said back ≡ more → rows_fault (front ++ back) ≡ None → list_any (list_any is_double_item) rs ≡ false →
-            PlaceLeft (place_tokens mode write f) (place_tokens mode write g)
-        go [] back xs ys ef2 ex eg2 ey ea eb fault single = absurd (omega (arith, some, ap length ea))
-        go (q ∷ qs) [] xs ys ef2 ex eg2 ey ea eb fault single =
-            same_place (ef ∙ (ap told_rows (sym (append-nil rs) ∙ ap (λ z. rs ++ z) eb) ∙ sym eg))
-        go (q ∷ qs) (p ∷ ps) xs ys ef2 ex eg2 ey ea eb fault single =
-            let said : rows_said xs.items ≡ rows_said (q ∷ qs) = ex ∙ sym ea in
-            let single_xs = subst (λ r. list_any (list_any is_double_item) r ≡ false) (sym ex) single in
-            let left = place_is mode write f (joined (codes ", ") (map row_text (q ∷ qs))) (row_values (q ∷ qs))
-            (ap fragment_text ef2 ∙ ap (joined (codes ", ")) (same_texts xs.items (q ∷ qs) single_xs said))
-            (ap fragment_values ef2 ∙ same_values xs.items (q ∷ qs) said) in
-            let right = place_is mode write g (joined (codes ", ") (map row_text ((q ∷ qs) ++ (p ∷ ps)))) (row_values ((q ∷ qs) ++ (p ∷ ps)))
-            (ap fragment_text eg2 ∙ ap (λ z. joined (codes ", ") (map row_text z)) ey) (ap fragment_values eg2 ∙ ap row_values ey) in
-            place_by _ _ _ _ left right (rows_left mode write (length q.items) 0 q qs p ps fault)
-
-    less_place : PlaceLeft (place_tokens mode write f) (place_tokens mode write g)
-    less_place = go (full f) (full g) h.fewer refl refl
-      where
-        go : (x y : Full) → Fewer x y → full f ≡ x → full g ≡ y → PlaceLeft (place_tokens mode write f) (place_tokens mode write g)
-        go x y (fewer_none z) a b = same_place (a ∙ sym b)
-        go x y (fewer_rows rs more some) a b = less_rows rs more some a b
+  less_place : (f g : Fragment) → IsLess f g → fault_of g ≡ None → PlaceLeft (place_tokens mode write f) (place_tokens mode write g)
+  less_place f g (less_same a b s) none =
+      place_by _ _ _ _ (place_is mode write a (fragment_text b) (fragment_values b) (s.text mark) s.values)
+      (place_is mode write b (fragment_text b) (fragment_values b) refl refl) (place_same _)
+  less_place f g (less_rows xs ys q qs [] s e) none =
+      let same : ys.items ≡ q ∷ qs = e ∙ append-nil (q ∷ qs) in
+      place_by _ _ _ _ (rows_place xs (q ∷ qs) (s.texts mark) s.values) (rows_place ys (q ∷ qs) (ap (map row_text) same) (ap row_values same)) (place_same _)
+  less_place f g (less_rows xs ys q qs (p ∷ ps) s e) none =
+      place_by _ _ _ _ (rows_place xs (q ∷ qs) (s.texts mark) s.values) (rows_place ys ((q ∷ qs) ++ (p ∷ ps)) (ap (map row_text) e) (ap row_values e))
+      (rows_left mode write (length q.items) 0 q qs p ps (sym (ap rows_fault e) ∙ none))
 
   -- ---- all places
 
@@ -200,18 +140,29 @@ left_portable mode text other us vs u v h p o =
     let q = subst IsPortableInClient (one_token_list mode other o.0 vs o.1 v) o.2 in
     (us, u, record { portable = p; no_opener = left_opener h q.no_opener; sent = left_sent h true true q.sent })
 
-pub fewer_portable : (asked : Literals) (query : List ℕ) (ts : List Token) (m n : FragmentMap) (text other : List ℕ) → IsTokensIn (wide_reading (mode_of asked)) query ts →
-    IsPortableInClient (lower_names ts) → AreLessByName m n → IsFragmentsFor asked portability.Portable ts (named m) text →
-    IsFragmentsFor asked portability.Portable ts (named n) other → OnTokens (mode_of asked) other IsPortableInClient → OnTokens (mode_of asked) text IsPortableInClient
-fewer_portable literals.Steady query ts m n text other is p less a b o =
-    let x = a.steady_text in
-    let y = b.steady_text in
+pub steady_portable : (query text : List ℕ) (ts : List Token) (given : GivenFragments) → IsTokensIn (wide_reading with_backslashes) query ts →
+    IsPortableInClient (lower_names ts) → (b : IsSteadyFragments ts given text) →
+    IsPortable (with_literal_tokens (with_literal_tokens ts b.expanded.lists) b.bound.literal_tokens)
+steady_portable query text ts given is p b =
+    portable_expanded (with_literal_tokens ts b.expanded.lists) (positional (all_values b.expanded.fragments)) b.query text b.isolated b.steady
+    (expanded_alike with_backslashes query b.query ts given is p b.expanded) b.bound
+
+fewer_bound : (asked : Literals) (query : List ℕ) (ts : List Token) (m n : FragmentMap) (text other : List ℕ) → IsTokensIn (wide_reading (mode_of asked)) query ts →
+    IsPortableInClient (lower_names ts) → AreLessByName m n → IsBoundFor asked ts (named m) text →
+    IsBoundFor asked ts (named n) other → OnTokens (mode_of asked) other IsPortableInClient → OnTokens (mode_of asked) text IsPortableInClient
+fewer_bound literals.Steady query ts m n text other is p less x y o =
     left_portable with_backslashes text other _ _ (x.bound.isolated with_backslashes) (y.bound.isolated with_backslashes)
     (bound_left steady_literal_of with_backslashes ts m n x.query y.query x.expanded y.expanded x.bound.values y.bound.values x.bound.literals y.bound.literals x.bound.literal_tokens y.bound.literal_tokens less
     x.bound.looked_up x.bound.written (x.bound.tokens_of_literals with_backslashes) y.bound.looked_up y.bound.written (y.bound.tokens_of_literals with_backslashes))
-    a.portable_text o
-fewer_portable (literals.Plain mode) query ts m n text other is p less x y o =
+    (steady_portable query text ts (named m) is p x) o
+fewer_bound (literals.Plain mode) query ts m n text other is p less x y o =
     left_portable mode text other _ _ x.bound.isolated y.bound.isolated
     (bound_left (literal_of mode) mode ts m n x.query y.query x.expanded y.expanded x.bound.values y.bound.values x.bound.literals y.bound.literals x.bound.literal_tokens y.bound.literal_tokens less
     x.bound.looked_up x.bound.written x.bound.tokens_of_literals y.bound.looked_up y.bound.written y.bound.tokens_of_literals)
     (plain_portable mode query text ts (named m) is p x) o
+
+pub fewer_portable : (asked : Literals) (query : List ℕ) (ts : List Token) (m n : FragmentMap) (text other : List ℕ) → IsTokensIn (wide_reading (mode_of asked)) query ts →
+    IsPortableInClient (lower_names ts) → AreLessByName m n → IsAskedText asked ts (named m) text →
+    IsAskedText asked ts (named n) other → OnTokens (mode_of asked) other IsPortableInClient → OnTokens (mode_of asked) text IsPortableInClient
+fewer_portable asked query ts m n text other is p less x y o =
+    fewer_bound asked query ts m n text other is p less (bound_for asked query text ts (named m) is x) (bound_for asked query other ts (named n) is y) o

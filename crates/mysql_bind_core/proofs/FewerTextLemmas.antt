@@ -1,34 +1,23 @@
 -- With fewer rows a text is no longer, and what refuses it refuses the text with more rows too.
-use Rattle.std.specs.Prelude.{Bool, unwrap_or}
+use Rattle.std.specs.Prelude.{unwrap_or}
 use Rattle.std.specs.List.{list_all}
 use Rattle.std.proofs.Common.{◌≡◌, ◌∙◌, ◌+◌, ◌++◌, ◌≤◌, ℕ, true, false, List, [], ◌∷◌, length, map, None, Some, Ok, Err, inl, inr, refl, sym, ap, subst, append-nil, arith, length-append, true≢false, if◌then◌else◌}
 use Rattle.std.proofs.lemmas.Bool.{cases_Bool}
 use Rattle.std.proofs.lemmas.List.{nil_from_length}
-use Rattle.mysql_sql_text.specs.StringUnits.{with_backslashes}
 use Rattle.mysql_values.specs.declared.value.Value.{Value}
-use Rattle.mysql_values.specs.Literal.{literal_of}
-use Rattle.mysql_named_params.specs.LoweredNames.{lower_names}
 use Rattle.mysql_named_params.specs.Places.{marks, names}
 use Rattle.mysql_named_params.specs.Tokens.{Mark, Name, Token, bytes_of}
-use Rattle.mysql_portable.specs.Steady.{IsSteady, is_steady}
+use Rattle.mysql_portable.specs.Steady.{is_steady}
 use Rattle.mysql_portable.proofs.OtherModeLemmas.{all_parts}
-use Rattle.mysql_portable.proofs.SteadyLemmas.{none_unsteady}
-use Rattle.mysql_portable.proofs.UnportableLemmas.{portable_has_none}
-use Rattle.mysql_params_core.specs.Given.{positional}
-use Rattle.mysql_params_core.specs.Lookup.{lookup}
 use Rattle.mysql_binding.specs.FirstCause.{mark_count_differs}
 use Rattle.mysql_binding.specs.LiteralForm.{Literals as LiteralsOf, written_literal}
-use Rattle.mysql_binding.specs.Pieces.{joined_text, pieces}
-use Rattle.mysql_binding.specs.Replaced.{with_literal_tokens}
 use Rattle.mysql_binding.proofs.BoundText.{bound}
 use Rattle.mysql_binding.proofs.CauseLemmas.{map_none, or_none}
 use Rattle.mysql_binding.proofs.PieceLemmas.{joined_text_is}
-use Rattle.mysql_steady_text.specs.SteadyLiteral.{steady_literal_of}
-use Rattle.mysql_fragments.specs.Expanded.{IsExpanded}
-use Rattle.mysql_fragments.specs.FragmentErrors.{Cause, IsCauseOrMemory, cause_of_places, count_cause, faulty, first_cause, first_fault_from, first_float_from, float_value, later_cause, mark_count, not_alone, refused_fragments}
+use Rattle.mysql_fragments.specs.FragmentErrors.{IsCauseOrMemory, cause_of_places, count_cause, first_cause, first_fault_from, first_float_from, later_cause, mark_count, refused_fragments}
 use Rattle.mysql_fragments.specs.FragmentErrors as fragments
 use Rattle.mysql_fragments.specs.FragmentFaults.{fault_of}
-use Rattle.mysql_fragments.specs.FragmentText.{all_values, filled_text, fragment_text, mark}
+use Rattle.mysql_fragments.specs.FragmentText.{filled_text, fragment_text, mark}
 use Rattle.mysql_fragments.specs.GivenFragments.{FragmentMap, GivenFragments, PlaceFragments, fragments_for, named}
 use Rattle.mysql_fragments.specs.SteadyFragments.{first_unsteady_from, unsteady_place}
 use Rattle.mysql_fragments.specs.declared.fragment.Fragment.{Fragment}
@@ -36,40 +25,23 @@ use Rattle.mysql_fragments.specs.declared.fragments_error.FragmentsError.{Fragme
 use Rattle.mysql_fragments.specs.declared.steady_fragments_error.SteadyFragmentsError.{SteadyFragmentsError}
 use Rattle.mysql_fragments.specs.declared.steady_fragments_error.SteadyFragmentsError.TheVariants as steady
 use Rattle.mysql_fragments.proofs.CauseLemmas.{no_later_parts}
-use Rattle.mysql_fragments.proofs.ExpandedLemmas.{expanded_nameless, expanded_parts}
-use Rattle.mysql_fragments.proofs.FilledLemmas.{filled_bound}
-use Rattle.mysql_bind_core.specs.Entries.{IsFragmentsFor}
-use Rattle.mysql_bind_core.specs.Refusals.{IsFragmentsRefusal, looked_for}
+use Rattle.mysql_fragments.proofs.TextOfFragmentsLemmas.{fragments_steady}
+use Rattle.mysql_bind_core.specs.Entries.{IsAskedText, asked_literal}
+use Rattle.mysql_bind_core.specs.Refusals.{IsFragmentsRefusal}
 use Rattle.mysql_bind_core.specs.RowsBound.{is_of_memory}
 use Rattle.mysql_bind_core.specs.declared.failure.Failure.{Failure}
 use Rattle.mysql_bind_core.specs.declared.failure.Failure.TheVariants as failure
 use Rattle.mysql_bind_core.specs.declared.request.Literals.{Literals}
 use Rattle.mysql_bind_core.specs.declared.request.Literals.TheVariants as literals
-use Rattle.mysql_bind_core.specs.declared.request.Portability.{Portability}
-use Rattle.mysql_bind_core.specs.declared.request.Portability.TheVariants as portability
-use Rattle.mysql_bind_core.proofs.FewerEntryLemmas.{AreLessByName, AreLessFragments, AreLessPlaces, IsLess, less_places}
-use Rattle.mysql_bind_core.proofs.FewerRowLemmas.{fewer_fault, fewer_float, fewer_text, full, full_has_float, is_full_faulty, is_full_written}
+use Rattle.mysql_bind_core.proofs.FewerEntryLemmas.{AreLessByName, AreLessFragments, AreLessPlaces, less_places}
+use Rattle.mysql_bind_core.proofs.FewerRowLemmas.{IsLess, less_fault, less_float, less_text}
 
--- ---- one fragment
+-- ---- the fragments of places
 
-module _ (f g : Fragment) (h : IsLess f g) where
-  less_text : (write : Value → List ℕ) → (more : List ℕ) × (filled_text write g ≡ filled_text write f ++ more)
-  less_text write =
-      let m = fewer_text write (full f) (full g) h.fewer in
-      (m.0, is_full_written write g h.second ∙ (m.1 ∙ ap (λ z. z ++ m.0) (sym (is_full_written write f h.first))))
-
-  less_fault : fault_of g ≡ None → fault_of f ≡ None
-  less_fault e = is_full_faulty f h.first ∙ fewer_fault (full f) (full g) h.fewer (sym (is_full_faulty g h.second) ∙ e)
-
-  less_float : fragments.has_float g ≡ false → fragments.has_float f ≡ false
-  less_float e = full_has_float f h.first ∙ fewer_float (full f) (full g) h.fewer (sym (full_has_float g h.second) ∙ e)
-
-  less_steady : list_all is_steady (fragment_text g) ≡ true → list_all is_steady (fragment_text f) ≡ true
-  less_steady e =
-      let m = less_text mark in
-      (all_parts is_steady (fragment_text f) m.0 (ap (list_all is_steady) (sym m.1) ∙ e)).0
-
--- ---- those of places
+less_steady : (f g : Fragment) → IsLess f g → list_all is_steady (fragment_text g) ≡ true → list_all is_steady (fragment_text f) ≡ true
+less_steady f g h e =
+    let m = less_text f g h mark in
+    (all_parts is_steady (fragment_text f) m.0 (ap (list_all is_steady) (sym m.1) ∙ e)).0
 
 as_many : (fs gs : List Fragment) → AreLessFragments fs gs → length fs ≡ length gs
 unfolding AreLessFragments
@@ -151,55 +123,23 @@ module _ (literal : LiteralsOf) where
       let more = written_all vs ls later in
       λ i. here i ∷ more i
 
-  -- the text of the expanded query and literals of its values
-  filled_is : (mode : Bool) (ts : List Token) (given : GivenFragments) (query text : List ℕ) (x : IsExpanded true mode ts given query) (vs : List Value) (ls : List (List ℕ)) →
-      lookup (positional (all_values x.fragments)) (names (with_literal_tokens ts x.lists)) ≡ Ok vs → map literal vs ≡ map Some ls →
-      joined_text (pieces (with_literal_tokens ts x.lists)) ls ≡ Some text → text ≡ bound ts (map (filled_text (written_literal literal)) x.fragments)
-  filled_is mode ts given query text x vs ls looked_up written is =
-      let us : List Token = with_literal_tokens ts x.lists in
-      let parts = expanded_parts true mode ts given query x in
-      let none : names us ≡ [] = expanded_nameless true mode ts given query x in
-      let found : Ok (all_values x.fragments) ≡ Ok vs = sym (ap (lookup (positional (all_values x.fragments))) none) ∙ looked_up in
-      let values_are : vs ≡ all_values x.fragments = cc in
-      joined_text_is us ls text is
-      ∙ (ap (bound us) (sym (written_all vs ls written) ∙ ap (map (written_literal literal)) values_are)
-      ∙ filled_bound mode (written_literal literal) 0 ts x.fragments x.lists parts.2 x.tokens_of_fragments parts.0)
-
--- the literals of a request
-pub literals_for : Literals → LiteralsOf
-literals_for literals.Steady = steady_literal_of
-literals_for (literals.Plain mode) = literal_of mode
-
 -- a text is that of the fragments for its places
 pub record IsFilled (asked : Literals) (ts : List Token) (given : GivenFragments) (text : List ℕ) : Type 0 where
   pub fragments : List Fragment
   pub given_to_places : fragments_for given (names ts) ≡ Ok fragments
   pub no_cause : first_cause true ts given ≡ None
-  pub text_is : text ≡ bound ts (map (filled_text (written_literal (literals_for asked))) fragments)
+  pub text_is : text ≡ bound ts (map (filled_text (asked_literal asked)) fragments)
 
-pub is_filled_for : (asked : Literals) (wanted : Portability) (ts : List Token) (given : GivenFragments) (text : List ℕ) → IsFragmentsFor asked wanted ts given text →
+pub is_filled_for : (asked : Literals) (ts : List Token) (given : GivenFragments) (text : List ℕ) → IsAskedText asked ts given text →
     IsFilled asked ts given text
-unfolding literals_for
-is_filled_for literals.Steady portability.Portable ts given text b =
-    let s = b.steady_text in
+is_filled_for asked ts given text b =
+    let x = b.placed in
     record {
-      fragments = s.expanded.fragments;
-      given_to_places = s.expanded.given_to_places;
-      no_cause = s.expanded.no_cause;
-      text_is = filled_is steady_literal_of with_backslashes ts given s.query text s.expanded s.bound.values s.bound.literals s.bound.looked_up s.bound.written s.bound.text_is;
+      fragments = x.fragments;
+      given_to_places = x.given_to_places;
+      no_cause = x.no_cause;
+      text_is = joined_text_is ts (map (filled_text (asked_literal asked)) x.fragments) text x.text_is;
     }
-is_filled_for literals.Steady portability.Any ts given text s = record {
-  fragments = s.expanded.fragments;
-  given_to_places = s.expanded.given_to_places;
-  no_cause = s.expanded.no_cause;
-  text_is = filled_is steady_literal_of with_backslashes ts given s.query text s.expanded s.bound.values s.bound.literals s.bound.looked_up s.bound.written s.bound.text_is;
-}
-is_filled_for (literals.Plain mode) wanted ts given text b = record {
-  fragments = b.expanded.fragments;
-  given_to_places = b.expanded.given_to_places;
-  no_cause = b.expanded.no_cause;
-  text_is = filled_is (literal_of mode) mode ts given b.query text b.expanded b.bound.values b.bound.literals b.bound.looked_up b.bound.written b.bound.text_is;
-}
 
 placed_length : (write : Value → List ℕ) (ts : List Token) (f g : Fragment) (fs gs : List Fragment) → IsLess f g →
     length (bound ts (map (filled_text write) fs)) ≤ length (bound ts (map (filled_text write) gs)) →
@@ -244,7 +184,7 @@ pub fewer_length : (asked : Literals) (ts : List Token) (m n : FragmentMap) (tex
     IsFilled asked ts (named m) text → IsFilled asked ts (named n) other → length text ≤ length other
 fewer_length asked ts m n text other h x y =
     let less = both_found x.fragments y.fragments (fragments_for (named m) (names ts)) (fragments_for (named n) (names ts)) x.given_to_places y.given_to_places (less_places m n h (names ts)) in
-    omega (arith, less_length (written_literal (literals_for asked)) ts x.fragments y.fragments less, ap length x.text_is, ap length y.text_is)
+    omega (arith, less_length (asked_literal asked) ts x.fragments y.fragments less, ap length x.text_is, ap length y.text_is)
 
 -- texts of the same content are the same
 same_written : (write : Value → List ℕ) (fs gs : List Fragment) → AreLessFragments fs gs → AreLessFragments gs fs →
@@ -272,7 +212,7 @@ pub same_filled : (asked : Literals) (ts : List Token) (m n : FragmentMap) (text
 same_filled asked ts m n text other h k x y =
     let less = both_found x.fragments y.fragments (fragments_for (named m) (names ts)) (fragments_for (named n) (names ts)) x.given_to_places y.given_to_places (less_places m n h (names ts)) in
     let more = both_found y.fragments x.fragments (fragments_for (named n) (names ts)) (fragments_for (named m) (names ts)) y.given_to_places x.given_to_places (less_places n m k (names ts)) in
-    x.text_is ∙ (ap (bound ts) (same_written (written_literal (literals_for asked)) x.fragments y.fragments less more) ∙ sym y.text_is)
+    x.text_is ∙ (ap (bound ts) (same_written (asked_literal asked) x.fragments y.fragments less more) ∙ sym y.text_is)
 
 -- ---- refusals
 
@@ -284,27 +224,21 @@ module _ (ts : List Token) (m n : FragmentMap) (h : AreLessByName m n) (none : f
   not_refused error other (inl e) = true≢false (sym (ap (λ x. is_of_memory (failure.Fragments x)) e) ∙ other)
   not_refused error other (inr e) = some_none (sym e.1 ∙ less_cause ts m n h none)
 
-  module _ (query : List ℕ) where
-    not_refused_steady : (wanted : Portability) (error : SteadyFragmentsError) → is_of_memory (failure.SteadyFragments error) ≡ false →
-        IsSteady query → looked_for wanted ts ≡ None → unsteady_place (fragments_for (named n) (names ts)) ≡ None →
-        IsFragmentsRefusal literals.Steady wanted query ts (named m) (failure.SteadyFragments error) → ⊥
-    not_refused_steady wanted (steady.Unsteady at) other s p u e = some_none (sym e ∙ (none_unsteady query).1 s)
-    not_refused_steady wanted (steady.Unportable found) other s p u e = some_none (sym e.1 ∙ p)
-    not_refused_steady wanted (steady.Fragments error) other s p u e = not_refused error other e.2
-    not_refused_steady wanted (steady.UnsteadyFragment place) other s p u e =
-        some_none (sym e.2.1 ∙ less_unsteady ts (fragments_for (named m) (names ts)) (fragments_for (named n) (names ts)) (less_places m n h (names ts)) u)
+  not_refused_steady : (error : SteadyFragmentsError) → is_of_memory (failure.SteadyFragments error) ≡ false →
+      unsteady_place (fragments_for (named n) (names ts)) ≡ None →
+      IsFragmentsRefusal literals.Steady ts (named m) (failure.SteadyFragments error) → ⊥
+  not_refused_steady (steady.Unsteady at) other u e = absurd e
+  not_refused_steady (steady.Unportable found) other u e = absurd e
+  not_refused_steady (steady.Fragments error) other u e = not_refused error other e
+  not_refused_steady (steady.UnsteadyFragment place) other u e =
+      some_none (sym e.1 ∙ less_unsteady ts (fragments_for (named m) (names ts)) (fragments_for (named n) (names ts)) (less_places m n h (names ts)) u)
 
 -- nothing refuses the text with fewer rows
-pub none_refused : (asked : Literals) (wanted : Portability) (query : List ℕ) (ts : List Token) (m n : FragmentMap) (text : List ℕ) (why : Failure) → AreLessByName m n →
-    (asked ≡ literals.Steady → IsSteady query) → IsFragmentsFor asked wanted ts (named n) text → is_of_memory why ≡ false →
-    IsFragmentsRefusal asked wanted query ts (named m) why → ⊥
-none_refused (literals.Plain mode) wanted query ts m n text (failure.Fragments error) h s b other r =
-    not_refused ts m n h (is_filled_for (literals.Plain mode) wanted ts (named n) text b).no_cause error other r
-none_refused literals.Steady portability.Portable query ts m n text (failure.SteadyFragments error) h s b other r =
-    let x = b.steady_text in
-    not_refused_steady ts m n h x.expanded.no_cause query portability.Portable error other (s refl) (portable_has_none (lower_names ts) b.portable)
-    (ap unsteady_place x.expanded.given_to_places ∙ x.steady_fragments) r
-none_refused literals.Steady portability.Any query ts m n text (failure.SteadyFragments error) h s x other r =
-    not_refused_steady ts m n h x.expanded.no_cause query portability.Any error other (s refl) refl
-    (ap unsteady_place x.expanded.given_to_places ∙ x.steady_fragments) r
-none_refused asked wanted query ts m n text why h s b other r = absurd r
+pub none_refused : (asked : Literals) (ts : List Token) (m n : FragmentMap) (text : List ℕ) (why : Failure) → AreLessByName m n →
+    IsAskedText asked ts (named n) text → is_of_memory why ≡ false → IsFragmentsRefusal asked ts (named m) why → ⊥
+none_refused (literals.Plain mode) ts m n text (failure.Fragments error) h b other r =
+    not_refused ts m n h b.placed.no_cause error other r
+none_refused literals.Steady ts m n text (failure.SteadyFragments error) h b other r =
+    not_refused_steady ts m n h b.placed.no_cause error other
+    (ap unsteady_place b.placed.given_to_places ∙ fragments_steady ts (named n) text b.placed (b.steady refl)) r
+none_refused asked ts m n text why h b other r = absurd r

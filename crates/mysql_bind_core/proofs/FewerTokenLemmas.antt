@@ -25,7 +25,7 @@ use Rattle.mysql_fragments.specs.declared.fragment.Item.{Item}
 use Rattle.mysql_fragments.specs.declared.fragment.Fragment.{Fragment}
 use Rattle.mysql_fragments.proofs.FragmentLemmas.{comma_then, fragment_list_of}
 use Rattle.mysql_fragments.proofs.ShapeLemmas.{fragment_shape, if_row, item_shape}
-use Rattle.mysql_bind_core.proofs.FewerRowLemmas.{joined-append}
+use Rattle.mysql_bind_core.proofs.FewerRowLemmas.{joined-append, rows_faults}
 use Rattle.mysql_bind_core.proofs.FewerSentLemmas.{AreLeft, left_out, left_same}
 
 -- ---- the tokens of texts
@@ -118,14 +118,6 @@ left_place a b us vs (place_out ks ms) h = go ks
 
 abbrev pub row_values : List (Vec Item) → List Value
 row_values qs = flat_map (λ q. flat_map item_values q.items) qs
-
-rows_faults : (width r : ℕ) (xs ys : List (Vec Item)) → rows_fault_from width r (xs ++ ys) ≡ None →
-    (rows_fault_from width r xs ≡ None) × (s : ℕ) × (rows_fault_from width s ys ≡ None)
-rows_faults width r [] ys e = (refl, r, e)
-rows_faults width r (x ∷ xs) ys e =
-    let p = or_none (row_fault width r x.items) _ e in
-    let more = rows_faults width (r + 1) xs ys p.1 in
-    (rw p.0 more.0, more.1, more.2)
 
 module _ (mode : Bool) where
   items_list : (r i : ℕ) (x : Item) (xs : List Item) → items_fault r i (x ∷ xs) ≡ None →

@@ -5,7 +5,7 @@ use Rattle.std.proofs.lemmas.Bool.{cases_Bool, cases_lt}
 use Rattle.std.proofs.lemmas.List.{length-map}
 use Rattle.mysql_bind_core.specs.Contents.{ItemContent, item_said}
 use Rattle.mysql_bind_core.specs.GroupSearch.{AreRead, IsFit, IsMost, IsRestOf, IsUnfitTry}
-use Rattle.mysql_bind_core.specs.Groups.{AreGroups, AreGroupsAppended, AreUnfit, AreUnfitRecords, IsFull, IsGroup, IsGroupRefused, last_count, more_groups, no_groups, of_next, of_rest, of_rows, records_of, too_long, with_row, without_row}
+use Rattle.mysql_bind_core.specs.Groups.{AreGroups, AreGroupsAppended, AreUnfit, AreUnfitRecords, IsFull, IsGroup, IsGroupRefused, last_count, more_groups, no_groups, of_next, of_rows, too_long, with_row}
 use Rattle.mysql_bind_core.specs.Groups as groups
 use Rattle.mysql_bind_core.specs.RowItems.{BeginsWithRow, BeginsWithRows, RowsSaid, more_rows, no_rows, rows_said}
 use Rattle.mysql_bind_core.specs.RowsBound.{IsRowsBoundRefusal, IsRowsWritten, is_of_memory}
@@ -139,10 +139,6 @@ groups_more query form text gs texts back records written rest (more_groups r w 
 last_count-snoc : (given : ℕ) (gs : List (List Fields)) (records : List Fields) → last_count given (gs ++ records ∷ []) ≡ length records
 last_count-snoc given [] records = refl
 last_count-snoc given (g ∷ gs) records = last_count-snoc (length g) gs records
-
-pub records_of-snoc : (gs : List (List Fields)) (records : List Fields) → records_of (gs ++ records ∷ []) ≡ records_of gs ++ records
-records_of-snoc [] records = append-nil records
-records_of-snoc (g ∷ gs) records = ap (λ rs. g ++ rs) (records_of-snoc gs records) ∙ sym (append_assoc g (records_of gs) records)
 
 -- what is appended so far
 pub record GroupsSoFar (query : RequestedQuery) (form : GroupForm) (text rest before after : List ℕ) (count rows : ℕ) : Type 0 where

@@ -46,7 +46,7 @@ rows_line : (query : RequestedQuery) (fixed : List Assignment) (rows : RowsSaid)
     IsRowsWritten query fixed rows text → HasLine mode text
 rows_line query fixed rows text mode r w =
     let o = w.text_is.bound in
-    named_line query.request.literals query.request.portability o.0 (named w.text_is.entries) text mode r
+    named_line query.request.literals query.query o.0 (named w.text_is.entries) text mode r o.1
     (closed_lowered (mode_of query.request.literals) query.query o.0 o.1 w.taken.closed) o.2
 
 groups_lines : (query : RequestedQuery) (form : GroupForm) (mode : Bool) → IsReadIn query.request.literals mode → (text : List ℕ)

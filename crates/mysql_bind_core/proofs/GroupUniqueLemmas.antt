@@ -2,8 +2,7 @@
 -- unfit too.
 use Rattle.std.proofs.Common.{◌≡◌, ◌∙◌, ℕ, ◌<◌, ◌≤◌, false, List, [], ◌∷◌, ◌++◌, length, map, inl, inr, None, Some, refl, ap, sym, subst, append-nil, arith, length-append, true≢false}
 use Rattle.std.specs.Global.{Vec}
-use Rattle.std.specs.List.{list_any}
-use Rattle.std.proofs.lemmas.Bool.{cases_lt, or_parts}
+use Rattle.std.proofs.lemmas.Bool.{cases_lt}
 use Rattle.std.proofs.lemmas.List.{nil_from_length}
 use Rattle.mysql_named_params.specs.LoweredNames.{lower_names}
 use Rattle.mysql_named_params.specs.Reading.{wide_reading}
@@ -17,7 +16,7 @@ use Rattle.mysql_fragments.specs.declared.fragment.Fragment.TheVariants.{Rows}
 use Rattle.mysql_fragments.specs.declared.fragment.Item.{Item}
 use Rattle.mysql_records.proofs.RecordLemmas.{record_same}
 use Rattle.mysql_bind_core.specs.Contents.{contents_of}
-use Rattle.mysql_bind_core.specs.Entries.{IsFragmentsFor, entries_of, pair_said, with_fragment}
+use Rattle.mysql_bind_core.specs.Entries.{IsAskedText, entries_of, pair_said, with_fragment}
 use Rattle.mysql_bind_core.specs.Groups.{AreGroups, AreUnfit, IsFull, IsGroup, more_groups, no_groups, of_next, of_rest, of_rows, refused, too_long}
 use Rattle.mysql_bind_core.specs.Refusals.{IsContentsRefusal, IsEntriesRefusal, IsFragmentsRefusal}
 use Rattle.mysql_bind_core.specs.Requests.{mode_of}
@@ -26,13 +25,12 @@ use Rattle.mysql_bind_core.specs.RowsBound.{AreEntriesOf, IsRowsBoundRefusal, Is
 use Rattle.mysql_bind_core.specs.Scripts.{statement}
 use Rattle.mysql_bind_core.specs.Tables.{Fields}
 use Rattle.mysql_bind_core.specs.TakenQuery.{RequestedQuery}
-use Rattle.mysql_bind_core.specs.UniqueGroups.{assigns_double, has_doubles, is_double_item}
 use Rattle.mysql_bind_core.specs.declared.failure.Failure.{Failure}
 use Rattle.mysql_bind_core.specs.declared.failure.Failure.TheVariants as failure
 use Rattle.mysql_bind_core.specs.declared.group_form.GroupForm.{GroupForm}
 use Rattle.mysql_bind_core.specs.declared.table_form.TableForm.{TableForm}
 use Rattle.mysql_bind_core.proofs.EachModeLemmas.{own_mode}
-use Rattle.mysql_bind_core.proofs.FewerEntryLemmas.{AreLessByName, entries_less, none_twice, none_twice_assigned, rows_single}
+use Rattle.mysql_bind_core.proofs.FewerEntryLemmas.{AreLessByName, entries_less, none_twice, none_twice_assigned}
 use Rattle.mysql_bind_core.proofs.FewerPortableLemmas.{fewer_portable}
 use Rattle.mysql_bind_core.proofs.FewerTextLemmas.{fewer_length, is_filled_for, none_refused, same_filled}
 use Rattle.mysql_bind_core.proofs.RowItemLemmas.{as_many_rows, no_rows_read}
@@ -66,32 +64,31 @@ front_rows form text fs rs rest gs qs end (more_rows f i fs2 rs2 t b r first oth
 
 -- ---- unfit rows
 
-module _ (query : RequestedQuery) (form : GroupForm) (rs more : RowsSaid) (single : list_any assigns_double form.fixed.now ≡ false) (some : 0 < length rs)
-    (none : list_any (list_any is_double_item) (rs ++ more) ≡ false) (other : List ℕ) (w : IsRowsWritten query form.fixed.now (rs ++ more) other) where
+module _ (query : RequestedQuery) (form : GroupForm) (rs more : RowsSaid) (some : 0 < length rs) (other : List ℕ)
+    (w : IsRowsWritten query form.fixed.now (rs ++ more) other) where
   less : (m : FragmentMap) → AreEntriesOf form.fixed.now rs m → AreLessByName m w.text_is.entries
-  less m x = entries_less form.fixed.now rs more single some none w.text_is.entries w.text_is.are m x
+  less m x = entries_less form.fixed.now rs more some w.text_is.entries w.text_is.are m x
 
   -- the text with fewer rows is no longer
   shorter : (text : List ℕ) → IsRowsText query form.fixed.now rs text → length text ≤ length other
   shorter text x =
       let y = w.text_is in
       let asked = query.request.literals in
-      let wanted = query.request.portability in
       let same : x.bound.0 ≡ y.bound.0 = one_reading (wide_reading (mode_of asked)) query.query x.bound.0 y.bound.0 x.bound.1 y.bound.1 in
       fewer_length asked y.bound.0 x.entries y.entries text other (less x.entries x.are)
-      (is_filled_for asked wanted y.bound.0 (named x.entries) text (subst (λ us. IsFragmentsFor asked wanted us (named x.entries) text) same x.bound.2))
-      (is_filled_for asked wanted y.bound.0 (named y.entries) other y.bound.2)
+      (is_filled_for asked y.bound.0 (named x.entries) text (subst (λ us. IsAskedText asked us (named x.entries) text) same x.bound.2))
+      (is_filled_for asked y.bound.0 (named y.entries) other y.bound.2)
 
   not_by_contents : (why : Failure) → is_of_memory why ≡ false → IsContentsRefusal form.fixed.now why → ⊥
   not_by_contents failure.NoValue h r = let bad : Some (map pair_said w.text_is.are.pairs) ≡ None = sym w.text_is.are.contents_are ∙ r in cc
   not_by_contents (failure.Memory error) h r = true≢false h
-  not_by_contents (failure.Redefined name) h r = none_twice_assigned form.fixed.now rs more single some none w.text_is.entries w.text_is.are r.0 name.items r.1 r.2
+  not_by_contents (failure.Redefined name) h r = none_twice_assigned form.fixed.now rs more some w.text_is.entries w.text_is.are r.0 name.items r.1 r.2
   not_by_contents why h r = absurd r.2
 
   not_by_name : (ps : List (List ℕ × Fragment)) (xs : Vec (Vec Item)) (why : Failure) → is_of_memory why ≡ false → contents_of form.fixed.now ≡ Some (map pair_said ps) →
       rows_said xs.items ≡ rs → IsEntriesRefusal (with_fragment (entries_of ps) (row_name, Rows xs)) why → ⊥
   not_by_name ps xs (failure.Memory error) h a c r = true≢false h
-  not_by_name ps xs (failure.Redefined name) h a c r = none_twice form.fixed.now rs more single some none w.text_is.entries w.text_is.are ps xs name.items a c r
+  not_by_name ps xs (failure.Redefined name) h a c r = none_twice form.fixed.now rs more some w.text_is.entries w.text_is.are ps xs name.items a c r
   not_by_name ps xs why h a c r = absurd r
 
   not_refused : (why : Failure) → is_of_memory why ≡ false → IsRowsBoundRefusal query form.fixed.now rs why → ⊥
@@ -100,10 +97,9 @@ module _ (query : RequestedQuery) (form : GroupForm) (rs more : RowsSaid) (singl
   not_refused why h (of_entries m are o) =
       let y = w.text_is in
       let asked = query.request.literals in
-      let wanted = query.request.portability in
       let same : o.0 ≡ y.bound.0 = one_reading (wide_reading (mode_of asked)) query.query o.0 y.bound.0 o.1 y.bound.1 in
-      none_refused asked wanted query.query y.bound.0 m y.entries other why (less m are) w.taken.steady y.bound.2 h
-      (subst (λ us. IsFragmentsRefusal asked wanted query.query us (named m) why) same o.2)
+      none_refused asked y.bound.0 m y.entries other why (less m are) y.bound.2 h
+      (subst (λ us. IsFragmentsRefusal asked us (named m) why) same o.2)
   not_refused why h (of_text text x found e f) =
       let y = w.text_is in
       let asked = query.request.literals in
@@ -111,10 +107,9 @@ module _ (query : RequestedQuery) (form : GroupForm) (rs more : RowsSaid) (singl
       let same : x.bound.0 ≡ y.bound.0 = one_reading (wide_reading mode) query.query x.bound.0 y.bound.0 x.bound.1 y.bound.1 in
       let q = (w.taken.portable f.0).0 in
       let low = subst (λ us. IsPortableInClient (lower_names us)) (one_reading (wide_reading mode) query.query q.0 y.bound.0 q.1 y.bound.1) q.2 in
-      let first = subst (λ us. IsFragmentsFor asked query.request.portability us (named x.entries) text) same x.bound.2 in
+      let first = subst (λ us. IsAskedText asked us (named x.entries) text) same x.bound.2 in
       let p = fewer_portable asked query.query y.bound.0 x.entries y.entries text other y.bound.1 low (less x.entries x.are)
-      (subst (λ k. IsFragmentsFor asked k y.bound.0 (named x.entries) text) f.0 first)
-      (subst (λ k. IsFragmentsFor asked k y.bound.0 (named y.entries) other) f.0 y.bound.2) (w.portable_text f.0 mode (own_mode asked)) in
+      first y.bound.2 (w.portable_text f.0 mode (own_mode asked)) in
       let o = none_in_client mode text (Some found) f.1 in
       let bad : Some found ≡ None = o.2.1 (subst IsPortableInClient (one_token_list mode text p.0 o.0 p.1 o.1) p.2) in
       cc
@@ -125,33 +120,22 @@ module _ (query : RequestedQuery) (form : GroupForm) (rs more : RowsSaid) (singl
   not_unfit fits (refused why h r) = not_refused why h r
 
 -- the same rows have one text
-one_text : (query : RequestedQuery) (form : GroupForm) (rs : RowsSaid) (a b : List ℕ) → list_any assigns_double form.fixed.now ≡ false → 0 < length rs →
-    list_any (list_any is_double_item) rs ≡ false → IsRowsText query form.fixed.now rs a → IsRowsText query form.fixed.now rs b → a ≡ b
-one_text query form rs a b single some none x y =
+one_text : (query : RequestedQuery) (form : GroupForm) (rs : RowsSaid) (a b : List ℕ) → 0 < length rs → IsRowsText query form.fixed.now rs a →
+    IsRowsText query form.fixed.now rs b → a ≡ b
+one_text query form rs a b some x y =
     let asked = query.request.literals in
-    let wanted = query.request.portability in
     let same : x.bound.0 ≡ y.bound.0 = one_reading (wide_reading (mode_of asked)) query.query x.bound.0 y.bound.0 x.bound.1 y.bound.1 in
     same_filled asked y.bound.0 x.entries y.entries a b (less_same x.entries y.entries x.are y.are) (less_same y.entries x.entries y.are x.are)
-    (is_filled_for asked wanted y.bound.0 (named x.entries) a (subst (λ us. IsFragmentsFor asked wanted us (named x.entries) a) same x.bound.2))
-    (is_filled_for asked wanted y.bound.0 (named y.entries) b y.bound.2)
+    (is_filled_for asked y.bound.0 (named x.entries) a (subst (λ us. IsAskedText asked us (named x.entries) a) same x.bound.2))
+    (is_filled_for asked y.bound.0 (named y.entries) b y.bound.2)
   where
     less_same : (m n : FragmentMap) → AreEntriesOf form.fixed.now rs m → AreEntriesOf form.fixed.now rs n → AreLessByName m n
     less_same m n u v =
-        entries_less form.fixed.now rs [] single some (subst (λ r. list_any (list_any is_double_item) r ≡ false) (sym (append-nil rs)) none) n
-        (subst (λ r. AreEntriesOf form.fixed.now r n) (sym (append-nil rs)) v) m u
+        entries_less form.fixed.now rs [] some n (subst (λ r. AreEntriesOf form.fixed.now r n) (sym (append-nil rs)) v) m u
 
 -- ---- groups
 
-module _ (query : RequestedQuery) (form : GroupForm) (single : has_doubles form ≡ false) where
-  no_double_rows : (text : List ℕ) (fs : List Fields) (rs : RowsSaid) (rest : List ℕ) → BeginsWithRows form.table text fs rs rest → list_any (list_any is_double_item) rs ≡ false
-  no_double_rows text fs rs rest h =
-      let p = or_parts _ _ single in
-      let q = or_parts _ _ p.1 in
-      rows_single form.table text fs rs rest p.0 q.0 h
-
-  no_double_fixed : list_any assigns_double form.fixed.now ≡ false
-  no_double_fixed = (or_parts _ _ (or_parts _ _ single).1).1
-
+module _ (query : RequestedQuery) (form : GroupForm) where
   -- a group isn't smaller than another
   not_smaller : (text : List ℕ) (fs gs : List Fields) (rest end written other : List ℕ) → IsGroup query form text fs rest written →
       IsGroup query form text gs end other → length fs < length gs → ⊥
@@ -169,9 +153,7 @@ module _ (query : RequestedQuery) (form : GroupForm) (single : has_doubles form 
           row_behind rest end h.more h.more_said h.records_are h.behind none
       go (of_next u) =
           let h = front_rows form.table text u.records u.rows u.rest gs y.rows end u.begins y.begins (omega (arith, few, u.number)) in
-          not_unfit query form u.rows h.more_said no_double_fixed
-          (omega (arith, u.number, as_many_rows form.table text u.records u.rows u.rest u.begins))
-          (subst (λ rs. list_any (list_any is_double_item) rs ≡ false) h.rows_are (no_double_rows text gs y.rows end y.begins)) other
+          not_unfit query form u.rows h.more_said (omega (arith, u.number, as_many_rows form.table text u.records u.rows u.rest u.begins)) other
           (subst (λ rs. IsRowsWritten query form.fixed.now rs other) h.rows_are y.is_written) y.fits u.unfit
 
   pub same_group : (text : List ℕ) (fs gs : List Fields) (rest end written other : List ℕ) → IsGroup query form text fs rest written →
@@ -188,8 +170,7 @@ module _ (query : RequestedQuery) (form : GroupForm) (single : has_doubles form 
               let rows_same : y.rows ≡ x.rows = h.rows_are ∙ (ap (λ z. x.rows ++ z) (nil_from_length h.more_said none_said) ∙ append-nil x.rows) in (
                 sym (append-nil fs) ∙ (ap (λ z. fs ++ z) (sym (nil_from_length h.more none)) ∙ sym h.records_are),
                 no_rows_read form.table rest h.more h.more_said end h.behind none_said,
-                one_text query form x.rows written other no_double_fixed
-                    (omega (arith, x.some, as_many_rows form.table text fs x.rows rest x.begins)) (no_double_rows text fs x.rows rest x.begins)
+                one_text query form x.rows written other (omega (arith, x.some, as_many_rows form.table text fs x.rows rest x.begins))
                     x.is_written.text_is (subst (λ rs. IsRowsText query form.fixed.now rs other) rows_same y.is_written.text_is),
               )
         ]

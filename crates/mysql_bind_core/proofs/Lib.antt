@@ -6,6 +6,7 @@ pub mod NewlineLemmas
 pub mod OpenStringLemmas
 pub mod QueryEndLemmas
 pub mod FoundPairLemmas
+pub mod PairsTextLemmas
 pub mod AppendedRowLemmas
 pub mod TakenQueryLemmas
 pub mod CellLemmas
@@ -34,6 +35,7 @@ pub mod ColumnLemmas
 pub mod RecordValueLemmas
 pub mod JsonMemberLemmas
 pub mod OptionWordLemmas
+pub mod SameContentLemmas
 pub mod FewerRowLemmas
 pub mod FewerEntryLemmas
 pub mod FewerTextLemmas
@@ -41,3 +43,7 @@ pub mod GroupUniqueLemmas
 pub mod FewerSentLemmas
 pub mod FewerTokenLemmas
 pub mod FewerPortableLemmas
+pub mod FragmentTextLemmas
+pub mod OneWrittenLemmas
+pub mod WrittenValueLemmas
+pub mod AnyServerLemmas

@@ -1,32 +1,27 @@
 -- A text that is bound to a query by wide names: what a client makes of it, by the query with these names in
 -- lower case, whose tokens are of the grammar and whose places have the same literals.
 use Rattle.std.specs.Prelude.{Bool}
-use Rattle.std.proofs.Common.{◌≡◌, ◌∙◌, ℕ, true, List, [], None, Some, ap, length, subst, sym}
+use Rattle.std.proofs.Common.{◌≡◌, ◌∙◌, ℕ, true, List, [], None, Some, ap, subst, sym}
 use Rattle.mysql_sql_text.specs.InLine.{AreInLine}
 use Rattle.mysql_named_params.specs.LoweredNames.{lower_names}
 use Rattle.mysql_named_params.specs.Reading.{IsTokensIn, wide_reading}
 use Rattle.mysql_named_params.specs.Tokens.{Token, IsTokens, text_of}
 use Rattle.mysql_named_params.proofs.LoweredLemmas.{lowered_tokens}
 use Rattle.mysql_named_params.proofs.ReparsedLemmas.{names_in_reading}
-use Rattle.mysql_portable.specs.Client.{Client, IsReadBy}
 use Rattle.mysql_portable.specs.FirstUnportableInClient.{IsPortableInClient}
-use Rattle.mysql_portable.specs.Portable.{AreReadAlikeBefore, IsReadAs}
-use Rattle.mysql_portable.specs.Quiet.{DecidesWithin, IsHonest}
-use Rattle.mysql_portable.specs.Statements.{statements}
-use Rattle.mysql_portable.proofs.ClientLemmas.{read_as_server}
+use Rattle.mysql_portable.specs.Portable.{AreReadAlikeBefore}
 use Rattle.mysql_portable.proofs.PlaceTextLemmas.{placeless_join_no_number}
 use Rattle.mysql_params_core.specs.Given.{Given}
 use Rattle.mysql_binding.specs.Isolation.{IsBoundText}
 use Rattle.mysql_binding.specs.Pieces.{joined_text, pieces}
 use Rattle.mysql_binding.specs.Replaced.{AreTokensOf, with_literal_tokens}
 use Rattle.mysql_binding.specs.StandsAlone.{first_not_alone}
-use Rattle.mysql_binding.proofs.BoundOnServerLemmas.{bound_portable, bound_read, isolated_on}
+use Rattle.mysql_binding.proofs.BoundOnServerLemmas.{bound_portable}
 use Rattle.mysql_binding.proofs.BoundSentLemmas.{bound_alone, literals_sent}
 use Rattle.mysql_binding.proofs.BoundStatementLemmas.{StayWithin, literals_within, replaced_no_opener}
 use Rattle.mysql_binding.proofs.ReplacedLemmas.{isolated_places}
 use Rattle.mysql_binding.proofs.SentTextLemmas.{except_marks}
 use Rattle.mysql_binding.proofs.SpliceLemmas.{Each}
-use Rattle.mysql_binding.proofs.SplicedInClientLemmas.{spliced_by_client, spliced_count, spliced_on_reader}
 use Rattle.mysql_steady_text.proofs.WideSteadyLemmas.{first_not_alone-lowered, pieces-lowered, with_literal_tokens-lowered}
 use Rattle.mysql_bind_core.proofs.BoundLineLemmas.{places_filled}
 
@@ -69,23 +64,6 @@ module _ (mode : Bool) (query text : List ℕ) (ts : List Token) (given : Given)
   alike =
       bound_portable mode (text_of (lower_names ts)) text (lower_names ts) b.literals b.literal_tokens (low_tokens mode query ts is) p.portable.alike
       b.shapes b.tokens_of_literals exact
-
-  pub plain_count : (client : Client) (vs : List Token) → IsHonest client.reader → IsReadBy client mode text vs →
-      length (statements vs) ≡ length (statements ts)
-  plain_count client vs honest v =
-      spliced_count ts b.literal_tokens inside vs
-      (subst (λ us. IsReadAs us vs) same
-      (bound_read mode (text_of (lower_names ts)) text (lower_names ts) b.literals b.literal_tokens (low_tokens mode query ts is) p.portable.alike
-      b.shapes b.tokens_of_literals exact client.reader vs honest
-      (spliced_on_reader (lower_names ts) b.literal_tokens inside mode text isolated alike p.no_opener client honest vs v)))
-
-  pub plain_read : (client : Client) (us : List Token) → IsHonest client.reader → DecidesWithin client.reader →
-      IsReadBy client mode (text_of (lower_names ts)) us → IsReadBy client mode text (with_literal_tokens us b.literal_tokens)
-  plain_read client us honest decides u =
-      let h = low_tokens mode query ts is in
-      spliced_by_client (lower_names ts) b.literal_tokens inside mode text isolated alike p.no_opener client honest (with_literal_tokens us b.literal_tokens)
-      (isolated_on mode (text_of (lower_names ts)) text (lower_names ts) b.literals b.literal_tokens h p.portable.alike b.shapes b.tokens_of_literals exact
-      client.reader us honest decides (read_as_server client mode (text_of (lower_names ts)) (lower_names ts) us honest h p.portable.alike p.no_opener u))
 
   pub plain_sent : AreInLine b.literals → IsPortableInClient (with_literal_tokens ts b.literal_tokens)
   plain_sent in_line =

@@ -4,56 +4,51 @@ use Rattle.std.proofs.Common.{◌≡◌, ◌++◌, ◌==◌, ℕ, true, false, L
 use Rattle.std.specs.List.{list_all}
 use Rattle.std.proofs.lemmas.Bool.{and_parts}
 use Rattle.mysql_named_params.specs.Bytes.{backquote, colon, dash, double_quote, hash, question_mark, single_quote, slash}
+use Rattle.mysql_named_params.specs.Places.{names}
 use Rattle.mysql_named_params.specs.PlainBytes.{is_always_plain}
 use Rattle.mysql_named_params.specs.Reading.{IsTokensIn, wide_reading}
 use Rattle.mysql_named_params.specs.Tokens.{Token, IsToken, IsTokens, AreTokensBefore, text_of, Plain}
 use Rattle.mysql_named_params.proofs.TokenEnds.{plain_at}
 use Rattle.mysql_named_params.proofs.TokenRowLemmas.{text_of-append, AreTokensBefore-append}
-use Rattle.mysql_params_core.specs.Given.{Given}
 use Rattle.mysql_binding.specs.Replaced.{AreTokensOf}
 use Rattle.mysql_binding.proofs.LiteralTokenLemmas.{other}
 use Rattle.mysql_binding.proofs.SpliceLemmas.{Each}
-use Rattle.mysql_fragments.specs.GivenFragments.{GivenFragments, named}
-use Rattle.mysql_bind_core.specs.Bound.{IsTextFor, IsWritten, IsAssignedText, of_values, of_fragments}
-use Rattle.mysql_bind_core.specs.Entries.{IsFragmentsFor}
+use Rattle.mysql_fragments.specs.GivenFragments.{GivenFragments}
+use Rattle.mysql_bind_core.specs.Bound.{IsWritten, IsAssignedText}
+use Rattle.mysql_bind_core.specs.Entries.{IsAskedText, given_to}
 use Rattle.mysql_bind_core.specs.Requests.{IsReadIn, mode_of}
 use Rattle.mysql_bind_core.specs.declared.assignment.Assignment.{Assignment}
 use Rattle.mysql_bind_core.specs.declared.request.Literals.{Literals}
 use Rattle.mysql_bind_core.specs.declared.request.Literals.TheVariants as literals
-use Rattle.mysql_bind_core.specs.declared.request.Portability.{Portability}
-use Rattle.mysql_bind_core.specs.declared.request.Portability.TheVariants as portability
 use Rattle.mysql_bind_core.specs.declared.request.Request.{Request}
 use Rattle.mysql_bind_core.specs.declared.row.Row.{Row}
 use Rattle.mysql_bind_core.specs.Scripts.{AreStatements, AreWritten, IsScript, closing, opening, script, statement}
 use Rattle.mysql_bind_core.specs.ScriptTokens.{script_tokens, statement_tokens, tokens_of_statements, word_tokens}
-use Rattle.mysql_bind_core.proofs.BoundLineLemmas.{HasLine, IsClosedLowered, closed_lowered, fragments_line, plain_line, steady_fragments_line, steady_line}
+use Rattle.mysql_bind_core.proofs.BoundLineLemmas.{HasLine, IsClosedLowered, closed_lowered, fragments_line, steady_fragments_line}
+use Rattle.mysql_bind_core.proofs.FragmentTextLemmas.{IsBoundFor, bound_for}
 use Rattle.mysql_bind_core.proofs.LineLemmas.{line_end, EndClosed, closed_before, statement_before, statement_text}
 
 -- ---- the text of a row
 
-values_line : (literals : Literals) (wanted : Portability) (ts : List Token) (given : Given) (text : List ℕ)
+bound_line : (literals : Literals) (ts : List Token) (given : GivenFragments) (text : List ℕ)
     (mode : Bool) → IsReadIn literals mode → IsClosedLowered (mode_of literals) ts →
-    IsTextFor literals wanted ts given text → HasLine mode text
-values_line literals.Steady portability.Portable ts given text mode r c b = steady_line ts given text c b.steady_text mode
-values_line literals.Steady portability.Any ts given text mode r c b = steady_line ts given text c b mode
-values_line (literals.Plain own) wanted ts given text mode r c b =
-    subst (λ m. HasLine m text) r (plain_line own ts given text c b)
-
-pub named_line : (literals : Literals) (wanted : Portability) (ts : List Token) (given : GivenFragments) (text : List ℕ)
-    (mode : Bool) → IsReadIn literals mode → IsClosedLowered (mode_of literals) ts →
-    IsFragmentsFor literals wanted ts given text → HasLine mode text
-named_line literals.Steady portability.Portable ts given text mode r c b = steady_fragments_line ts given text c b.steady_text mode
-named_line literals.Steady portability.Any ts given text mode r c b = steady_fragments_line ts given text c b mode
-named_line (literals.Plain own) wanted ts given text mode r c b =
+    IsBoundFor literals ts given text → HasLine mode text
+bound_line literals.Steady ts given text mode r c b = steady_fragments_line ts given text c b mode
+bound_line (literals.Plain own) ts given text mode r c b =
     subst (λ m. HasLine m text) r (fragments_line own ts given text c b)
+
+pub named_line : (literals : Literals) (query : List ℕ) (ts : List Token) (given : GivenFragments) (text : List ℕ)
+    (mode : Bool) → IsReadIn literals mode → IsTokensIn (wide_reading (mode_of literals)) query ts → IsClosedLowered (mode_of literals) ts →
+    IsAskedText literals ts given text → HasLine mode text
+named_line literals query ts given text mode r is c b =
+    bound_line literals ts given text mode r c (bound_for literals query text ts given is b)
 
 assigned_line : (request : Request) (query : List ℕ) (assignments : List Assignment) (text : List ℕ) (mode : Bool) →
     IsReadIn request.literals mode → ((ts : List Token) → IsTokensIn (wide_reading (mode_of request.literals)) query ts → IsClosedLowered (mode_of request.literals) ts) →
     IsAssignedText request query assignments text → HasLine mode text
-assigned_line request query assignments text mode r c (of_values none v) =
-    values_line request.literals request.portability v.bound.0 v.given text mode r (c v.bound.0 v.bound.1) v.bound.2
-assigned_line request query assignments text mode r c (of_fragments some f) =
-    named_line request.literals request.portability f.bound.0 (named f.entries) text mode r (c f.bound.0 f.bound.1) f.bound.2
+assigned_line request query assignments text mode r c x =
+    let o = x.bound in
+    named_line request.literals query o.0 (given_to assignments x.entries (names o.0)) text mode r o.1 (c o.0 o.1) o.2
 
 written_line : (request : Request) (query : List ℕ) (assignments : List Assignment) (text : List ℕ) (mode : Bool) →
     IsReadIn request.literals mode → IsWritten request query assignments text → HasLine mode text

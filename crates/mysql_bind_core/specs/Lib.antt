@@ -24,4 +24,3 @@ pub mod RowsBound
 pub mod Groups
 pub mod GroupSearch
 pub mod JsonMembers
-pub mod UniqueGroups

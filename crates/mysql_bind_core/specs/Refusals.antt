@@ -1,27 +1,19 @@
 -- Which refusal comes: the first that holds, in the order of `Failure`.
-use Rattle.std.specs.Prelude.{◌≡◌, ◌++◌, ◌≢◌, ◌⊎◌, ℕ, Bool, true, false, List, map, Some, None, Result, Ok, Err, ⊤, Option}
-use Rattle.mysql_values.specs.declared.value.Value.{Value}
+use Rattle.std.specs.Prelude.{◌≡◌, ◌++◌, ◌≢◌, ◌⊎◌, ℕ, Bool, true, List, map, Some, None, Ok, Err, ⊤}
 use Rattle.mysql_named_params.specs.LoweredNames.{lower_names}
-use Rattle.mysql_named_params.specs.NamesAndMarks.{marks}
+use Rattle.mysql_named_params.specs.NamesAndMarks.{marks, names}
 use Rattle.mysql_named_params.specs.Reading.{OnWideTokens}
 use Rattle.mysql_named_params.specs.Tokens.{Token, OnTokens}
 use Rattle.mysql_portable.specs.Steady.{first_unsteady}
-use Rattle.mysql_portable.specs.FirstUnportable.{first_unportable}
 use Rattle.mysql_portable.specs.FirstUnportableInClient.{first_unportable_in_client}
 use Rattle.mysql_portable.specs.declared.portable.Unportable.{Unportable}
-use Rattle.mysql_params_core.specs.GivenValues.{Given}
-use Rattle.mysql_params_core.specs.Made.{ToParamsRefusal, redefined}
-use Rattle.mysql_binding.specs.BindErrors.{IsCauseOrMemory}
-use Rattle.mysql_binding.specs.FirstCause.{first_cause}
-use Rattle.mysql_steady_text.specs.SteadyTextErrors.{IsSteadyRefusal}
 use Rattle.mysql_fragments.specs.FragmentErrors as fragments
-use Rattle.mysql_fragments.specs.GivenFragments.{FragmentMap, GivenFragments, named}
+use Rattle.mysql_fragments.specs.GivenFragments.{FragmentMap, GivenFragments}
 use Rattle.mysql_fragments.specs.declared.fragment.Fragment.{Fragment}
 use Rattle.mysql_fragments.specs.SteadyFragmentsErrors as steady
-use Rattle.mysql_bind_core.specs.Assignments.{given_of, pairs_of}
 use Rattle.mysql_bind_core.specs.Bound.{IsAssignedText, IsClosed, IsSteadyIfWanted, IsPortableIfWanted, IsPortableQuery, IsTaken}
-use Rattle.mysql_bind_core.specs.Contents.{contents_of, has_fragment}
-use Rattle.mysql_bind_core.specs.Entries.{Entries, entries_of, pair_said}
+use Rattle.mysql_bind_core.specs.Contents.{contents_of}
+use Rattle.mysql_bind_core.specs.Entries.{Entries, entries_of, given_to, pair_said}
 use Rattle.mysql_bind_core.specs.QueryEnd.{EndsWithDashes, end, long_end}
 use Rattle.mysql_bind_core.specs.Requests.{mode_of}
 use Rattle.mysql_bind_core.specs.declared.assignment.Assignment.{Assignment}
@@ -31,7 +23,6 @@ use Rattle.mysql_bind_core.specs.declared.failure.Failure.{Failure}
 use Rattle.mysql_bind_core.specs.declared.failure.Failure.TheVariants as failure
 use Rattle.mysql_bind_core.specs.declared.request.Literals.{Literals}
 use Rattle.mysql_bind_core.specs.declared.request.Literals.TheVariants as literals
-use Rattle.mysql_bind_core.specs.declared.request.Portability.{Portability}
 use Rattle.mysql_bind_core.specs.declared.request.Portability.TheVariants as portability
 use Rattle.mysql_bind_core.specs.declared.request.Request.{Request}
 
@@ -76,20 +67,6 @@ abbrev pub pairs_failure : PairsError → Failure
 pairs_failure pairs.NoValue = failure.NoValue
 pairs_failure (pairs.Memory error) = failure.Memory error
 
--- why pairs that make this give nothing, or out of memory
-abbrev pub IsMadeRefusal : Result Given ToParamsRefusal → Failure → Type 0
-IsMadeRefusal made (failure.Redefined name) = made ≡ Err (redefined name.items)
-IsMadeRefusal made (failure.Memory error) = ⊤
-IsMadeRefusal made why = ⊥
-
--- why these assignments give nothing, or out of memory: the bytes of one mean no value, or the
--- pairs give nothing
-abbrev pub IsAssignmentsRefusal : List Assignment → Failure → Type 0
-IsAssignmentsRefusal assignments failure.NoValue = pairs_of assignments ≡ None
-IsAssignmentsRefusal assignments (failure.Memory error) = ⊤
-IsAssignmentsRefusal assignments why = (pairs : List (List ℕ × Value))
-    × (pairs_of assignments ≡ Some pairs) × IsMadeRefusal (given_of pairs) why
-
 -- why pairs that make these entries give nothing, or out of memory
 abbrev pub IsEntriesRefusal : Entries → Failure → Type 0
 IsEntriesRefusal made (failure.Redefined name) = made ≡ Err name.items
@@ -105,51 +82,14 @@ IsContentsRefusal assignments why = (pairs : List (List ℕ × Fragment))
     × (contents_of assignments ≡ Some (map pair_said pairs))
     × IsEntriesRefusal (entries_of pairs) why
 
--- the first construct that steady binding looks for
-abbrev pub looked_for : Portability → List Token → Option Unportable
-looked_for portability.Portable ts = first_unportable (lower_names ts)
-looked_for portability.Any ts = None
-
--- why the given values can't be bound, in the literals that are asked for, into a query with these
--- tokens
-abbrev pub IsTextRefusal : Literals → Portability → List ℕ → List Token → Given → Failure → Type 0
-IsTextRefusal (literals.Plain mode) wanted query ts given (failure.Plain error) =
-    IsCauseOrMemory (first_cause ts given) error
-IsTextRefusal literals.Steady wanted query ts given (failure.Steady error) =
-    IsSteadyRefusal query (looked_for wanted ts) (first_cause ts given) error
-IsTextRefusal asked wanted query ts given why = ⊥
-
 -- why fragments can't be bound, in the literals that are asked for, into a query with these tokens
-abbrev pub IsFragmentsRefusal : Literals → Portability → List ℕ → List Token → GivenFragments →
-    Failure → Type 0
-IsFragmentsRefusal (literals.Plain mode) wanted query ts given (failure.Fragments error) =
+-- that is taken
+abbrev pub IsFragmentsRefusal : Literals → List Token → GivenFragments → Failure → Type 0
+IsFragmentsRefusal (literals.Plain mode) ts given (failure.Fragments error) =
     fragments.IsCauseOrMemory (fragments.first_cause true ts given) error
-IsFragmentsRefusal literals.Steady wanted query ts given (failure.SteadyFragments error) =
-    steady.IsSteadyRefusal query (looked_for wanted ts) ts given error
-IsFragmentsRefusal asked wanted query ts given why = ⊥
-
--- why nothing is written for assignments that are all values: they give nothing, or the given
--- values can't be bound
-pub data IsValuesRefusal (request : Request) (query : List ℕ) (assignments : List Assignment)
-    (why : Failure) : Type 0 where
-  of_assignments : IsAssignmentsRefusal assignments why →
-      IsValuesRefusal request query assignments why
-  of_text : (pairs : List (List ℕ × Value)) → (given : Given) →
-      pairs_of assignments ≡ Some pairs → given_of pairs ≡ Ok given →
-      OnWideTokens (mode_of request.literals) query (λ ts.
-      IsTextRefusal request.literals request.portability query ts given why) →
-      IsValuesRefusal request query assignments why
-
--- the same for assignments if one is a fragment
-pub data IsFragmentsTextRefusal (request : Request) (query : List ℕ)
-    (assignments : List Assignment) (why : Failure) : Type 0 where
-  of_contents : IsContentsRefusal assignments why →
-      IsFragmentsTextRefusal request query assignments why
-  of_named : (pairs : List (List ℕ × Fragment)) → (entries : FragmentMap) →
-      contents_of assignments ≡ Some (map pair_said pairs) → entries_of pairs ≡ Ok entries →
-      OnWideTokens (mode_of request.literals) query (λ ts.
-      IsFragmentsRefusal request.literals request.portability query ts (named entries) why) →
-      IsFragmentsTextRefusal request query assignments why
+IsFragmentsRefusal literals.Steady ts given (failure.SteadyFragments error) =
+    steady.IsFragmentsRefusal ts given error
+IsFragmentsRefusal asked ts given why = ⊥
 
 -- the first construct of a text that has to be portable in a client, and isn't
 abbrev pub IsFoundInText : Request → List ℕ → Unportable → Type 0
@@ -158,14 +98,16 @@ IsFoundInText request text found =
     × OnTokens (mode_of request.literals) text (λ ts. Some found ≡ first_unportable_in_client ts)
 
 -- why a request writes nothing for this query and these assignments: the query isn't taken, the
--- assignments give nothing, they can't be bound, or the text isn't portable
+-- assignments give no fragments, these can't be bound, or the text isn't portable
 pub data IsRefusal (request : Request) (query : List ℕ) (assignments : List Assignment)
     (why : Failure) : Type 0 where
   of_query : IsQueryRefusal request query why → IsRefusal request query assignments why
-  of_values : IsTaken request query → has_fragment assignments ≡ false →
-      IsValuesRefusal request query assignments why → IsRefusal request query assignments why
-  of_fragments : IsTaken request query → has_fragment assignments ≡ true →
-      IsFragmentsTextRefusal request query assignments why →
+  of_contents : IsTaken request query → IsContentsRefusal assignments why →
+      IsRefusal request query assignments why
+  of_fragments : IsTaken request query → (pairs : List (List ℕ × Fragment)) →
+      (entries : FragmentMap) → contents_of assignments ≡ Some (map pair_said pairs) →
+      entries_of pairs ≡ Ok entries → OnWideTokens (mode_of request.literals) query (λ ts.
+      IsFragmentsRefusal request.literals ts (given_to assignments entries (names ts)) why) →
       IsRefusal request query assignments why
   of_bound_text : IsTaken request query → (text : List ℕ) →
       IsAssignedText request query assignments text → (found : Unportable) →

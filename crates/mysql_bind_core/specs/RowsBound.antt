@@ -11,7 +11,7 @@ use Rattle.mysql_fragments.specs.declared.fragments_error.FragmentsError.TheVari
 use Rattle.mysql_fragments.specs.declared.steady_fragments_error.SteadyFragmentsError.TheVariants as steady
 use Rattle.mysql_bind_core.specs.Bound.{IsTaken, IsTextPortableIfWanted}
 use Rattle.mysql_bind_core.specs.Contents.{contents_of}
-use Rattle.mysql_bind_core.specs.Entries.{IsFragmentsFor, entries_of, pair_said, with_fragment}
+use Rattle.mysql_bind_core.specs.Entries.{IsAskedText, entries_of, pair_said, with_fragment}
 use Rattle.mysql_bind_core.specs.Refusals.{IsContentsRefusal, IsEntriesRefusal, IsFoundInText, IsFragmentsRefusal}
 use Rattle.mysql_bind_core.specs.Requests.{mode_of}
 use Rattle.mysql_bind_core.specs.RowItems.{RowsSaid, rows_said}
@@ -40,7 +40,7 @@ pub record IsRowsText (query : RequestedQuery) (fixed : List Assignment) (rows :
   pub entries : FragmentMap
   pub are : AreEntriesOf fixed rows entries
   pub bound : OnWideTokens (mode_of query.request.literals) query.query (λ ts.
-      IsFragmentsFor query.request.literals query.request.portability ts (named entries) text)
+      IsAskedText query.request.literals ts (named entries) text)
 
 -- the text is the one that a request writes for a query, these assignments and rows that say this
 pub record IsRowsWritten (query : RequestedQuery) (fixed : List Assignment) (rows : RowsSaid)
@@ -62,8 +62,8 @@ pub data IsRowsBoundRefusal (query : RequestedQuery) (fixed : List Assignment) (
       IsRowsBoundRefusal query fixed rows why
   of_entries : (entries : FragmentMap) → AreEntriesOf fixed rows entries →
       OnWideTokens (mode_of query.request.literals) query.query (λ ts.
-      IsFragmentsRefusal query.request.literals query.request.portability query.query ts
-      (named entries) why) → IsRowsBoundRefusal query fixed rows why
+      IsFragmentsRefusal query.request.literals ts (named entries) why) →
+      IsRowsBoundRefusal query fixed rows why
   of_text : (text : List ℕ) → IsRowsText query fixed rows text → (found : Unportable) →
       why ≡ failure.UnportableText found → IsFoundInText query.request text found →
       IsRowsBoundRefusal query fixed rows why

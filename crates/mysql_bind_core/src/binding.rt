@@ -12,7 +12,7 @@ use crate::taken::TakenQuery;
 use std::alloc::Global;
 use std::io::Write;
 
-/// The query with the literals of the assigned values in the places of its wide names, or the
+/// The query with the assigned values and other fragments in the places of its wide names, or the
 /// refusal. The refusal is never `Write`. It is `Memory` only if the request takes the query, or,
 /// if the query ends with `--`, in place of `Unportable` and `Marks`.
 pub fn bound_text(

@@ -1,10 +1,8 @@
 //! Why nothing was written.
 use crate::assignment::PairsError;
-use mysql_binding::BindError;
 use mysql_fragments::{FragmentsError, SteadyFragmentsError};
 use mysql_io::readers_and_writers::WriteError;
 use mysql_portable::portable::Unportable;
-use mysql_steady_text::SteadyTextError;
 use std::alloc::{AllocError, AllocFailed};
 
 /// Why [`write_bound`](crate::write_bound) did not write the whole text: the first cause, in the
@@ -33,11 +31,8 @@ pub enum Failure {
     NoValue,
     /// This name is assigned twice.
     Redefined(Vec<u8>),
-    /// The values can't be bound into the query with the literals of a mode, or out of memory.
-    Plain(BindError),
-    /// The same with steady literals.
-    Steady(SteadyTextError),
-    /// Fragments can't be bound into the query with the literals of a mode, or out of memory.
+    /// The values and other fragments can't be bound into the query with the literals of a mode, or
+    /// out of memory.
     Fragments(FragmentsError),
     /// The same with steady literals.
     SteadyFragments(SteadyFragmentsError),
@@ -69,28 +64,6 @@ impl<T: Drop> From<AllocFailed<T>> for Failure {
 
     fn from(_error: AllocFailed<T>) -> Failure {
         Failure::Memory(AllocError)
-    }
-}
-
-impl From<BindError> for Failure {
-    ghost use Rattle.std.specs.Prelude.{◌≡◌};
-    ghost use Rattle.mysql_bind_core.specs.declared.failure.Failure.TheVariants.{Plain};
-
-    ghost from_gives = { λ error failure. failure ≡ Plain error };
-
-    fn from(error: BindError) -> Failure {
-        Failure::Plain(error)
-    }
-}
-
-impl From<SteadyTextError> for Failure {
-    ghost use Rattle.std.specs.Prelude.{◌≡◌};
-    ghost use Rattle.mysql_bind_core.specs.declared.failure.Failure.TheVariants.{Steady};
-
-    ghost from_gives = { λ error failure. failure ≡ Steady error };
-
-    fn from(error: SteadyTextError) -> Failure {
-        Failure::Steady(error)
     }
 }
 

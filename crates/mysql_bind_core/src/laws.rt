@@ -7,11 +7,13 @@ ghost use Rattle.mysql_named_params.specs.Tokens.{IsTokens, Token, text_of};
 ghost use Rattle.mysql_portable.specs.Quiet.{DecidesWithin, IsHonest};
 ghost use Rattle.mysql_portable.specs.Client.{Client, IsReadBy};
 ghost use Rattle.mysql_portable.specs.Statements.{statements};
-ghost use Rattle.mysql_bind_core.specs.Bound.{IsAssignedText, IsTextPortableIfWanted, IsTaken, IsWritten};
+ghost use Rattle.mysql_binding.specs.BoundStatements.{statements_with_literals};
+ghost use Rattle.mysql_binding.specs.Replaced.{with_literal_tokens};
+ghost use Rattle.mysql_bind_core.specs.Bound.{IsTextPortableIfWanted, IsTaken, IsWritten};
 ghost use Rattle.mysql_bind_core.specs.Cells.{AreAssigned};
-ghost use Rattle.mysql_bind_core.specs.Contents.{has_fragment};
+ghost use Rattle.mysql_bind_core.specs.FoundPairs.{IsValuesText};
 ghost use Rattle.mysql_bind_core.specs.Requests.{IsReadIn, mode_of};
-ghost use Rattle.mysql_bind_core.specs.Statements.{put_in_places, replaced, replaced_statements};
+ghost use Rattle.mysql_bind_core.specs.Statements.{put_in_places};
 ghost use Rattle.mysql_bind_core.specs.declared.assignment.Assignment.{Assignment};
 ghost use Rattle.mysql_bind_core.specs.declared.cell.Cell.{Cell};
 ghost use Rattle.mysql_bind_core.specs.declared.request.Portability.TheVariants as portability;
@@ -20,30 +22,27 @@ ghost use Rattle.mysql_bind_core.specs.declared.request.Request.{Request};
 mod groups;
 mod scripts;
 mod tables;
+mod values;
 
 pub use groups::groups_are_unique;
-use mysql_binding::laws::{bound_texts_are_sent, bound_texts_in_clients};
-use mysql_fragments::laws::{
-    bound_fragments_in_clients, fragments_in_clients, fragments_on_servers,
-    steady_fragments_in_clients,
-};
-use mysql_steady_text::laws::{
-    bound_steady_texts_in_clients, steady_texts_are_sent, steady_texts_in_clients,
-};
+use mysql_binding::laws::bound_texts_are_sent;
+use mysql_fragments::laws::fragments_in_clients;
+use mysql_steady_text::laws::steady_texts_are_sent;
 pub use scripts::{
     groups_make_scripts, records_make_scripts, scripts_in_clients, tables_make_scripts,
     tokens_of_scripts,
 };
 use std::alloc::Global;
 pub use tables::tables_give_values;
+pub use values::{fragments_are_bound, one_written_text, texts_for_any_server, values_are_bound};
 
 /// Unless all queries are taken, the written text has as many statements as the query, cut by a
 /// client that keeps comments. The assignments don't change that number (`count`).
 ///
 /// Suppose that the client also decides about a quiet comment only by the comment. Then it reads
 /// the text as the tokens of the query with its names in lower case, except in the places. In each
-/// place it reads exactly the tokens of the literal of the value that is assigned to the name, or
-/// those of the fragment (`tokens`). The statements of the text are those of the query, with the
+/// place it reads exactly the tokens of the fragment that is assigned to the name, with the
+/// literals of its values (`tokens`). The statements of the text are those of the query, with the
 /// same tokens in their places (`statements`). Example: for `SELECT :a` with 1 it reads the tokens
 /// of `1` there, and never reads `SELECT password FROM users`.
 ///
@@ -60,21 +59,16 @@ pub fn written_in_clients()
         IsReadIn request.literals mode → (w : IsWritten request query assignments text) →
         OnWideTokens mode query (λ ts. IsReadBy client mode (text_of (lower_names ts)) us →
         IsReadBy client mode text
-        (replaced us (put_in_places request query assignments text w.assigned))) }
+        (with_literal_tokens us (put_in_places request query assignments text w.assigned))) }
     ensures statements { (request : Request) (query text : List ℕ)
         (assignments : List Assignment) (us : List Token) →
         (w : IsWritten request query assignments text) →
-        statements (replaced us (put_in_places request query assignments text w.assigned))
-        ≡ replaced_statements (statements us)
+        statements (with_literal_tokens us
+        (put_in_places request query assignments text w.assigned))
+        ≡ statements_with_literals (statements us)
         (put_in_places request query assignments text w.assigned) }
 {
-    bound_texts_in_clients();
-    fragments_on_servers();
     fragments_in_clients();
-    bound_fragments_in_clients();
-    steady_texts_in_clients();
-    bound_steady_texts_in_clients();
-    steady_fragments_in_clients();
 }
 
 /// If no name has a capital, writing the names in lower case changes nothing (`same`). Such a query
@@ -101,9 +95,8 @@ pub fn cells_are_assigned(alloc: Global)
 // Steady literals and literals with backslash escapes have no newline and no byte 0. So a client
 // sends a text with such literals as it is.
 pub(crate) fn values_are_sent()
-    ensures { (request : Request) (query text : List ℕ) (assignments : List Assignment) →
-        has_fragment assignments ≡ false → mode_of request.literals ≡ false →
-        IsTaken request query → IsAssignedText request query assignments text →
+    ensures { (request : Request) (query text : List ℕ) → mode_of request.literals ≡ false →
+        IsTaken request query → IsValuesText request query text →
         IsTextPortableIfWanted request text }
 {
     bound_texts_are_sent();

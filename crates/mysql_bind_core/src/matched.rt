@@ -1,6 +1,6 @@
 //! A query whose places are matched with the columns of a table, once for all rows. Each row is
 //! bound from its cells, which borrow their bytes.
-ghost use Rattle.std.specs.Prelude.{◌≡◌, ◌++◌, ◌<◌, ◌^◌, ◌⊎◌, ℕ, false, true, List, All, length, map, Some, IfOk, IfErr, IfSome, IsErrOf, IsTrue, IsFalse, OnErr, OnOk, alloc_error};
+ghost use Rattle.std.specs.Prelude.{◌≡◌, ◌++◌, ◌<◌, ◌^◌, ◌⊎◌, ℕ, true, List, All, length, map, Some, IfOk, IfErr, IfSome, IsErrOf, IsTrue, IsFalse, OnErr, OnOk, alloc_error};
 ghost use Rattle.std.specs.List.{slice_get};
 ghost use Rattle.mysql_values.specs.BorrowedValue.{owned_values};
 ghost use Rattle.mysql_named_params.specs.Reading.{OnWideTokens};
@@ -8,10 +8,9 @@ ghost use Rattle.mysql_named_params.specs.Places.{names};
 ghost use Rattle.mysql_params_core.specs.Referents.{referents};
 ghost use Rattle.mysql_bind_core.specs.Bound.{IsTaken};
 ghost use Rattle.mysql_bind_core.specs.Cells.{AreAssigned, AreNumbersOf, TableQuery, are_distinct_names, value_said};
-ghost use Rattle.mysql_bind_core.specs.Contents.{has_fragment};
+ghost use Rattle.mysql_bind_core.specs.FoundPairs.{IsValuesText};
 ghost use Rattle.mysql_bind_core.specs.Refusals.{IsCopied, IsQueryRefusal};
 ghost use Rattle.mysql_bind_core.specs.RowTexts.{IsAssignedRowText, IsRowRefusal, IsRowText};
-ghost use Rattle.mysql_bind_core.specs.declared.assignment.Assignment as declared;
 
 use crate::assignment::Assignment;
 use crate::cell::{Cell, CellValue, cell_values};
@@ -175,11 +174,8 @@ impl<'q, 'c> MatchedQuery<'q, 'c> {
         ensures taken { IfOk result (λ attempt. IsTaken self.now.request self.now.query) }
         ensures bound { IfOk result (λ attempt. attempt ≡ Attempt.Written → (text : List ℕ)
             × IsAssignedRowText self.now cells.now text
+            × IsValuesText self.now.request self.now.query text
             × (script.new.items ≡ script.old.items ++ text)) }
-        ensures values { IfOk result (λ attempt. attempt ≡ Attempt.Written →
-            (assignments : List declared.Assignment) →
-            AreAssigned self.now.columns cells.now assignments →
-            has_fragment assignments ≡ false) }
         ensures kept { IfOk result (λ attempt. attempt ≡ Attempt.Left →
             script.new.items ≡ script.old.items) }
         ensures refused { OnErr result (script.new.items ≡ script.old.items) }

@@ -1,34 +1,38 @@
 //! Queries that a request takes. Everything that doesn't depend on values is found in a query once,
 //! and reused. The text of such a query has its assignments, in the literals that are asked for. It
 //! is written or refused as a whole.
-ghost use Rattle.std.specs.Prelude.{◌≡◌, ◌≢◌, ◌⊎◌, IfErr, IfOk, IsErrOf, OnOk, alloc_error, ℕ, List, Some, None, Ok, map, IfSome};
+ghost use Rattle.std.specs.Prelude.{◌≡◌, ◌≢◌, ◌⊎◌, IfErr, IfOk, IsErrOf, OnErr, OnOk, alloc_error, ℕ, List, None, Ok, map, false, IfSome};
 ghost use Rattle.std.specs.Io.KnownBytes.{Appends};
 ghost use Rattle.mysql_io.specs.ReadersAndWriters.{AppendsPrefix};
 ghost use Rattle.mysql_params_core.specs.GivenBorrowed.{by_borrowed, given_by_borrowed};
 ghost use Rattle.mysql_query_core.specs.WordErrors.{seen_pair};
 ghost use Rattle.mysql_named_params.specs.Tokens.{OnTokens};
 ghost use Rattle.mysql_portable.specs.FirstUnportableInClient.{IsPortableInClient};
-ghost use Rattle.mysql_bind_core.specs.Bound.{IsTaken, IsAssignedText, IsValuesText, IsWritten};
-ghost use Rattle.mysql_bind_core.specs.Refusals.{IsCopied, IsQueryRefusal, IsFoundInText, IsMadeRefusal, IsRefusal, IsValuesRefusal};
+ghost use Rattle.mysql_bind_core.specs.Bound.{IsTaken, IsAssignedText, IsWritten};
+ghost use Rattle.mysql_bind_core.specs.Contents.{has_fragment};
+ghost use Rattle.mysql_bind_core.specs.FoundPairs.{IsPairsText, IsValuesText};
+ghost use Rattle.mysql_bind_core.specs.Refusals.{IsCopied, IsQueryRefusal, IsFoundInText, IsRefusal};
 ghost use Rattle.mysql_bind_core.specs.Requests.{mode_of};
-ghost use Rattle.mysql_bind_core.specs.Assignments.{given_of, pairs_of};
+ghost use Rattle.mysql_bind_core.specs.Assignments.{given_of};
 
 mod appended;
 
-use crate::assignment::{Assignment, has_fragment, pairs_of};
+use crate::assignment::{Assignment, PairsError, has_fragment, pairs_of};
 use crate::checked::check_surveyed;
 use crate::failure::Failure;
 use crate::fragments_text::fragments_text;
 use crate::laws::values_are_sent;
 use crate::request::{Literals, Portability, Request};
 pub(crate) use appended::Attempt;
-use mysql_binding::{KEPT_PLACES, NO_PLACE, PlainForm, SurveyedQuery, WideQuery, bind_surveyed_as};
+use mysql_binding::{
+    BindError, KEPT_PLACES, NO_PLACE, PlainForm, SurveyedQuery, WideQuery, bind_surveyed_as,
+};
 use mysql_io::readers_and_writers::write_whole;
 use mysql_named_params::places::Reading;
 use mysql_params_core::params::{BorrowedParams, NamedPairs};
 use mysql_portable::client::first_unportable_in_client;
 use mysql_portable::portable::Unportable;
-use mysql_steady_text::{SteadyForm, SteadyTextError};
+use mysql_steady_text::SteadyForm;
 use mysql_values::value::{Value, ValueRef};
 use std::alloc::{AllocError, Global};
 use std::io::Write;
@@ -95,9 +99,9 @@ impl<'q> TakenQuery<'q> {
         &self.parsed
     }
 
-    /// The query with the literals of the assigned values in the places of its names, or the
-    /// refusal, like [`bound_text`](crate::bound_text). Values are bound without a further walk
-    /// over the query.
+    /// The query with the assigned values and other fragments in the places of its names, or the
+    /// refusal, like [`bound_text`](crate::bound_text). Values that can be bound take no further
+    /// walk over the query.
     pub fn text(&self, alloc: Global, assignments: &[Assignment]) -> Result<Vec<u8>, Failure>
         ensures bound { IfOk result (λ text.
             IsWritten self.now.request self.now.query assignments.now text.items) }
@@ -105,16 +109,13 @@ impl<'q> TakenQuery<'q> {
             (IsRefusal self.now.request self.now.query assignments.now) }
         ensures only { IfErr result (λ e. e ≢ Failure.Write) }
     {
-        if has_fragment(assignments) {
-            let text = fragments_text(alloc, self.parsed.query(), assignments, self.request)?;
-            return self.asked_text(assignments, text);
+        if !has_fragment(assignments) {
+            if let Some(text) = self.sent_values(alloc, assignments)? {
+                return Ok(text);
+            }
         }
-        let text = self.values_text(alloc, assignments)?;
-        if self.request.literals.no_backslash_escape() {
-            return self.asked_text(assignments, text);
-        }
-        values_are_sent();
-        Ok(text)
+        let text = fragments_text(alloc, &self.parsed.surveyed(), assignments, self.request)?;
+        self.asked_text(assignments, text)
     }
 
     /// Binds the assigned values into the query, and writes the whole text, or refuses, as
@@ -160,18 +161,67 @@ impl<'q> TakenQuery<'q> {
         }
     }
 
-    // The text of assignments that are all values, with the literals that are asked for.
-    fn values_text(&self, alloc: Global, assignments: &[Assignment]) -> Result<Vec<u8>, Failure>
-        ensures bound { IfOk result (λ text.
-            IsValuesText self.now.request self.now.query assignments.now text.items) }
+    // The text of assignments that are all values, without a further walk over the query. None if
+    // they can't be bound: `fragments_text` finds the cause.
+    fn sent_values(
+        &self,
+        alloc: Global,
+        assignments: &[Assignment],
+    ) -> Result<Option<Vec<u8>>, Failure>
+        requires { has_fragment assignments.now ≡ false }
+        ensures bound { IfOk result (λ found. IfSome found (λ text.
+            IsWritten self.now.request self.now.query assignments.now text.items)) }
         ensures refused { IfErr result
-            (IsValuesRefusal self.now.request self.now.query assignments.now) }
+            (IsRefusal self.now.request self.now.query assignments.now) }
         ensures only { IfErr result (λ e. e ≢ Failure.Write) }
     {
-        let pairs = pairs_of(alloc, assignments)?;
-        let borrowed = borrowed_pairs(alloc, pairs.as_slice())?;
+        let Some(text) = self.values_text(alloc, assignments)? else {
+            return Ok(None);
+        };
+        if self.request.literals.no_backslash_escape() {
+            let text = self.asked_text(assignments, text)?;
+            return Ok(Some(text));
+        }
+        values_are_sent();
+        Ok(Some(text))
+    }
+
+    // The same, whether or not the text is portable.
+    fn values_text(
+        &self,
+        alloc: Global,
+        assignments: &[Assignment],
+    ) -> Result<Option<Vec<u8>>, AllocError>
+        requires { has_fragment assignments.now ≡ false }
+        ensures assigned { IfOk result (λ found. IfSome found (λ text.
+            IsAssignedText self.now.request self.now.query assignments.now text.items)) }
+        ensures values { IfOk result (λ found. IfSome found (λ text.
+            IsValuesText self.now.request self.now.query text.items)) }
+    {
+        // Called for its `ensures` clause: the request takes the query.
+        Self::request(self);
+        let pairs = match pairs_of(alloc, assignments) {
+            Ok(pairs) => pairs,
+            Err(PairsError::NoValue) => return Ok(None),
+            Err(PairsError::Memory(error)) => return Err(error),
+        };
+        self.pairs_text(alloc, pairs.as_slice())
+    }
+
+    // The same for pairs of a name and a value.
+    fn pairs_text<'p>(
+        &self,
+        alloc: Global,
+        pairs: &'p [(&'p [u8], Value)],
+    ) -> Result<Option<Vec<u8>>, AllocError>
+        ensures { IfOk result (λ found. IfSome found (λ text.
+            IsPairsText self.now.request self.now.query (map seen_pair pairs.now) text.items)) }
+    {
+        let borrowed = borrowed_pairs(alloc, pairs)?;
         let named = NamedPairs(borrowed.as_slice());
-        let params = params_of(alloc, &named)?;
+        let Some(params) = params_of(alloc, &named)? else {
+            return Ok(None);
+        };
         let surveyed = self.parsed.surveyed();
         match self.request.literals {
             Literals::Plain {
@@ -180,15 +230,25 @@ impl<'q> TakenQuery<'q> {
                 let form = PlainForm {
                     no_backslash_escape,
                 };
-                Ok(bind_surveyed_as(alloc, &surveyed, params, &form)?)
+                bound_or_none(bind_surveyed_as(alloc, &surveyed, params, &form))
             }
-            // Both forms have the error `BindError`. This one is reported as that of steady
-            // literals.
-            Literals::Steady => match bind_surveyed_as(alloc, &surveyed, params, &SteadyForm) {
-                Ok(text) => Ok(text),
-                Err(error) => Err(Failure::Steady(SteadyTextError::Bind(error))),
-            },
+            Literals::Steady => {
+                bound_or_none(bind_surveyed_as(alloc, &surveyed, params, &SteadyForm))
+            }
         }
+    }
+}
+
+// What is bound, or none if it is refused; out of memory stays out of memory.
+pub(crate) fn bound_or_none<T: Drop>(bound: Result<T, BindError>) -> Result<Option<T>, AllocError>
+    ensures bound { IfOk result (λ found. IfSome found (λ it. bound ≡ Ok it)) }
+    ensures none { IfOk result (λ found. found ≡ None → OnOk bound ⊥) }
+    ensures refused { OnErr result (OnOk bound ⊥) }
+{
+    match bound {
+        Ok(it) => Ok(Some(it)),
+        Err(BindError::Memory(error)) => Err(error),
+        Err(_) => Ok(None),
     }
 }
 
@@ -257,22 +317,20 @@ fn borrowed_pairs<'p>(
     Ok(lent)
 }
 
-// The parameters that pairs make, by name. They are empty if there are no pairs. A name that is
-// given twice is refused.
+// The parameters that pairs make, by name. They are empty if there are no pairs. None if a name is
+// given twice.
 fn params_of<'p>(
     alloc: Global,
     pairs: &'p NamedPairs<'p>,
-) -> Result<BorrowedParams<'p, 'p>, Failure>
-    ensures given { IfOk result (λ params.
-        given_of (map by_borrowed pairs.now.0.now) ≡ Ok (given_by_borrowed params)) }
-    ensures refused { IfErr result (IsMadeRefusal (given_of (map by_borrowed pairs.now.0.now))) }
-    ensures only { IfErr result (λ e. e ≢ Failure.Write) }
+) -> Result<Option<BorrowedParams<'p, 'p>>, AllocError>
+    ensures { IfOk result (λ found. IfSome found (λ params.
+        given_of (map by_borrowed pairs.now.0.now) ≡ Ok (given_by_borrowed params))) }
 {
     if pairs.0.is_empty() {
-        return Ok(BorrowedParams::Empty);
+        return Ok(Some(BorrowedParams::Empty));
     }
     match pairs.first_redefined(alloc)? {
-        None => Ok(BorrowedParams::Pairs(pairs)),
-        Some(index) => Err(Failure::Redefined(Vec::from_slice(alloc, pairs.0[index].0)?)),
+        None => Ok(Some(BorrowedParams::Pairs(pairs))),
+        Some(_) => Ok(None),
     }
 }

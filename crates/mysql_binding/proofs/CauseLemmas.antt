@@ -216,7 +216,7 @@ values_each values (n ∷ ns) list e =
         let same : v ∷ more ≡ list = cc in
         ap length (sym same) ∙ ap suc (each more refl)
 
-ok_of : {A E : Type 0} (o : Option A) (error : E) (a : A) → ok_or o error ≡ Ok a → o ≡ Some a
+pub ok_of : {A E : Type 0} (o : Option A) (error : E) (a : A) → ok_or o error ≡ Ok a → o ≡ Some a
 ok_of None error a e = cc
 ok_of (Some x) error a e = cc
 

@@ -91,10 +91,12 @@ const WRITTEN: &[(&str, Row)] = cases! {
         b":a", NUMBER_TWICE, STEADY, Err("Redefined([97])");
     "write_bound of a name with two fragments" => b":a", NAME_TWICE, STEADY, Err("Redefined([97])");
     "write_bound of a missing value in plain literals" =>
-        b":b", NUMBER, PLAIN, Err("Plain(Params(Missing(MissingNamedParameterError([98]))))");
+        b":b", NUMBER, PLAIN, Err("Fragments(Missing(MissingNamedParameterError([98])))");
+    "write_bound of two missing values" =>
+        b":a, :b, :c", NUMBER, PLAIN, Err("Fragments(Missing(MissingNamedParameterError([98])))");
     "write_bound of a missing value in steady literals" =>
         b":b", NUMBER, STEADY,
-        Err("Steady(Bind(Params(Missing(MissingNamedParameterError([98])))))");
+        Err("SteadyFragments(Fragments(Missing(MissingNamedParameterError([98]))))");
     "write_bound of a missing fragment in plain literals" =>
         b":b", LIST, PLAIN, Err("Fragments(Missing(MissingNamedParameterError([98])))");
     "write_bound of a missing fragment in steady literals" =>

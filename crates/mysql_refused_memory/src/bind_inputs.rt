@@ -2,7 +2,6 @@
 use crate::outcome::{Outcome, judged};
 use mysql_bind_core::{Assignment, Failure, Literals, Portability, Request, ValueType};
 use mysql_fragments::{FragmentsError, SteadyFragmentsError};
-use mysql_params::{BindError, SteadyTextError};
 use std::alloc::{AllocError, Global};
 
 /// What names are assigned, as plain data.
@@ -66,8 +65,6 @@ pub(crate) fn refused(failure: Failure, wanted: Option<&str>) -> Outcome {
 pub(crate) fn is_memory(failure: &Failure) -> bool {
     match failure {
         Failure::Memory(_)
-        | Failure::Plain(BindError::Memory(_))
-        | Failure::Steady(SteadyTextError::Bind(BindError::Memory(_)))
         | Failure::Fragments(FragmentsError::Memory(_))
         | Failure::SteadyFragments(SteadyFragmentsError::Fragments(FragmentsError::Memory(_))) => {
             true

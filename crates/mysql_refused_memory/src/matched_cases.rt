@@ -71,7 +71,7 @@ const APPENDED: &[(&str, AppendedRow)] = cases! {
         b"(:a)", A, &[(Int, b"5"), (Int, b"6")], STEADY, Ok(b"(5)");
     "append_row of fewer cells than columns" =>
         b":a, :b", A_AND_B, &[(Int, b"5")], PLAIN,
-        Err("Plain(Params(Missing(MissingNamedParameterError([98]))))");
+        Err("Fragments(Missing(MissingNamedParameterError([98])))");
     "append_row of columns with one name" =>
         b":a", &[b"a", b"a"], &[(Int, b"5"), (Int, b"5")], STEADY, Err("Redefined([97])");
     "append_row of bytes that are no number" =>

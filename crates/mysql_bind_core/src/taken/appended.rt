@@ -9,10 +9,9 @@ ghost use Rattle.mysql_params_core.specs.Referents.{referents};
 ghost use Rattle.mysql_binding.specs.AppendedText.{AreFound};
 ghost use Rattle.mysql_binding.specs.PlaceValues.{placed_values};
 ghost use Rattle.mysql_query_core.specs.WordErrors.{seen_pair};
-ghost use Rattle.mysql_bind_core.specs.Assignments.{pairs_of};
 ghost use Rattle.mysql_bind_core.specs.Contents.{has_fragment};
-ghost use Rattle.mysql_bind_core.specs.Bound.{IsAssignedText, IsTextFor, IsWritten};
-ghost use Rattle.mysql_bind_core.specs.FoundPairs.{AreValuesIn, IsTextAppended, are_distinct, value_in};
+ghost use Rattle.mysql_bind_core.specs.Bound.{IsAssignedText, IsWritten};
+ghost use Rattle.mysql_bind_core.specs.FoundPairs.{AreValuesIn, IsGivenFor, IsTextAppended, IsValuesText, are_distinct, value_in};
 ghost use Rattle.mysql_bind_core.specs.Refusals.{IsRefusal};
 ghost use Rattle.mysql_bind_core.specs.Requests.{mode_of};
 
@@ -20,7 +19,7 @@ use crate::assignment::{Assignment, PairsError, has_fragment, pairs_of};
 use crate::failure::Failure;
 use crate::laws::values_are_sent;
 use crate::request::Literals;
-use crate::taken::{TakenQuery, found_in_text};
+use crate::taken::{TakenQuery, bound_or_none, found_in_text};
 use mysql_binding::{BindError, PlaceValues, PlainForm, append_surveyed};
 use mysql_steady_text::SteadyForm;
 use mysql_values::value::Value;
@@ -131,9 +130,8 @@ impl<'q> TakenQuery<'q> {
             referents query_names.now ≡ names ts) }
         ensures bound { IfOk result (λ attempt. attempt ≡ Attempt.Written → (text : List ℕ)
             × IsAssignedText self.now.request self.now.query assignments.now text
+            × IsValuesText self.now.request self.now.query text
             × (script.new.items ≡ script.old.items ++ text)) }
-        ensures values { IfOk result (λ attempt. attempt ≡ Attempt.Written →
-            has_fragment assignments.now ≡ false) }
         ensures kept { IfOk result (λ attempt. attempt ≡ Attempt.Left →
             script.new.items ≡ script.old.items) }
         ensures refused { OnErr result (script.new.items ≡ script.old.items) }
@@ -141,6 +139,8 @@ impl<'q> TakenQuery<'q> {
         if !are_few_values(query_names, assignments) {
             return Ok(Attempt::Left);
         }
+        // Called for its `ensures` clause: the request takes the query.
+        self.request();
         match pairs_of(alloc, assignments) {
             Ok(pairs) => self.append_pairs(alloc, query_names, pairs.as_slice(), script),
             Err(PairsError::NoValue) => Ok(Attempt::Left),
@@ -191,8 +191,7 @@ impl<'q> TakenQuery<'q> {
             OnWideTokens (mode_of self.now.request.literals) self.now.query
             (AreFound given (placed_values values.entry)) →
             OnWideTokens (mode_of self.now.request.literals) self.now.query (λ ts.
-            IsTextFor self.now.request.literals self.now.request.portability ts
-            given text))) }
+            IsGivenFor self.now.request.literals ts given text))) }
         ensures kept { IfOk result (λ attempt. attempt ≡ Attempt.Left →
             script.new.items ≡ script.old.items) }
         ensures refused { OnErr result (script.new.items ≡ script.old.items) }
@@ -220,10 +219,9 @@ fn attempt_of(written: Result<(), BindError>) -> Result<Attempt, AllocError>
     ensures undone { IfOk result (λ attempt. attempt ≡ Attempt.Left → OnOk written ⊥) }
     ensures refused { OnErr result (OnOk written ⊥) }
 {
-    match written {
-        Ok(()) => Ok(Attempt::Written),
-        Err(BindError::Memory(error)) => Err(error),
-        Err(_) => Ok(Attempt::Left),
+    match bound_or_none(written)? {
+        Some(()) => Ok(Attempt::Written),
+        None => Ok(Attempt::Left),
     }
 }
 

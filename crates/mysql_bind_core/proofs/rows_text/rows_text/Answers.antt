@@ -3,7 +3,7 @@ use Rattle.mysql_named_params.specs.Reading.{OnWideTokens}
 use Rattle.mysql_binding.proofs.AppendedTextLemmas.{handed_on}
 use Rattle.mysql_fragments.specs.GivenFragments.{FragmentMap, fragment_map, named}
 use Rattle.mysql_fragments.specs.declared.fragment.Fragment.TheVariants.{Rows}
-use Rattle.mysql_bind_core.specs.Entries.{Entries, IsFragmentsFor, with_fragment}
+use Rattle.mysql_bind_core.specs.Entries.{Entries, IsAskedText, with_fragment}
 use Rattle.mysql_bind_core.specs.Refusals.{IsEntriesRefusal, IsFragmentsRefusal}
 use Rattle.mysql_bind_core.specs.Requests.{mode_of}
 use Rattle.mysql_bind_core.specs.RowItems.{rows_said}
@@ -35,14 +35,14 @@ returns-clause-bound c =
       entries_are = subst (λ (made : Entries). with_fragment made (row_name, Rows c.args.rows) ≡ Ok given) (sym found.2) c.in_ok-insert_fragment.ensures.made;
     } in
     if_ok c.named_text.result
-    (λ text. OnWideTokens (mode_of c.request.result.literals) c.query.result.now (λ ts. IsFragmentsFor c.request.result.literals c.request.result.portability ts (named given) text.items))
+    (λ text. OnWideTokens (mode_of c.request.result.literals) c.query.result.now (λ ts. IsAskedText c.request.result.literals ts (named given) text.items))
     (λ text. IsRowsText q c.args.fixed.now (rows_said c.args.rows.items) text.items)
     (λ text bound. record {
       entries = given;
       are = are;
-      bound = subst (λ (query : List ℕ). OnWideTokens (mode_of q.request.literals) query (λ ts. IsFragmentsFor q.request.literals q.request.portability ts (named given) text.items))
+      bound = subst (λ (query : List ℕ). OnWideTokens (mode_of q.request.literals) query (λ ts. IsAskedText q.request.literals ts (named given) text.items))
           (c.query.ensures ∙ c.parsed.ensures.query)
-          (subst (λ (r : Request). OnWideTokens (mode_of r.literals) c.query.result.now (λ ts. IsFragmentsFor r.literals r.portability ts (named given) text.items)) c.request.ensures.request bound);
+          (subst (λ (r : Request). OnWideTokens (mode_of r.literals) c.query.result.now (λ ts. IsAskedText r.literals ts (named given) text.items)) c.request.ensures.request bound);
     })
     c.named_text.ensures.bound
 
@@ -59,10 +59,10 @@ returns-clause-refused c =
       entries_are = subst (λ (made : Entries). with_fragment made (row_name, Rows c.args.rows) ≡ Ok given) (sym found.2) c.in_ok-insert_fragment.ensures.made;
     } in
     if_err c.named_text.result
-    (λ why. OnWideTokens (mode_of c.request.result.literals) c.query.result.now (λ ts. IsFragmentsRefusal c.request.result.literals c.request.result.portability c.query.result.now ts (named given) why))
+    (λ why. OnWideTokens (mode_of c.request.result.literals) c.query.result.now (λ ts. IsFragmentsRefusal c.request.result.literals ts (named given) why))
     (IsRowsBoundRefusal q c.args.fixed.now (rows_said c.args.rows.items))
     (λ why refused. of_entries given are
-    (subst (λ (query : List ℕ). OnWideTokens (mode_of q.request.literals) query (λ ts. IsFragmentsRefusal q.request.literals q.request.portability query ts (named given) why))
+    (subst (λ (query : List ℕ). OnWideTokens (mode_of q.request.literals) query (λ ts. IsFragmentsRefusal q.request.literals ts (named given) why))
     (c.query.ensures ∙ c.parsed.ensures.query)
-    (subst (λ (r : Request). OnWideTokens (mode_of r.literals) c.query.result.now (λ ts. IsFragmentsRefusal r.literals r.portability c.query.result.now ts (named given) why)) c.request.ensures.request refused)))
+    (subst (λ (r : Request). OnWideTokens (mode_of r.literals) c.query.result.now (λ ts. IsFragmentsRefusal r.literals ts (named given) why)) c.request.ensures.request refused)))
     c.named_text.ensures.refused

@@ -15,16 +15,16 @@ returns-then-not-no_backslash_escape-clause-bound c = λ done.
       λ assignments are. record {
         taken = told.taken;
         assigned = bound.1 assignments are;
-        portable_text = c.values_are_sent.ensures q.request q.query bound.0 assignments (told.values c.in-Written.is assignments are) mode told.taken (bound.1 assignments are);
+        portable_text = c.values_are_sent.ensures q.request q.query bound.0 mode told.taken bound.2;
       },
-      bound.2,
+      bound.3,
     )
 
 pub returns-then-is_none-clause-bound : goal.returns-then-is_none-clause-bound
 returns-then-is_none-clause-bound c = λ done.
     let told = c.in_ok-append_cells.ensures in
     let bound = told.bound c.in-Written.is in
-    let behind = text_behind c.len-start.result c.args.script.now.items c.as_slice.result.now c.append_cells.new.script.items bound.0 (c.len-start.ensures ∙ c.args.script.now.ok.0) c.as_slice.ensures.value bound.2 in
+    let behind = text_behind c.len-start.result c.args.script.now.items c.as_slice.result.now c.append_cells.new.script.items bound.0 (c.len-start.ensures ∙ c.args.script.now.ok.0) c.as_slice.ensures.value bound.3 in
     let found : IsPortableInOwn c.self.inside.taken.request bound.0 =
     subst (IsPortableInOwn c.self.inside.taken.request) behind (subst (λ r. IsPortableInOwn r (take (length c.as_slice.result.now - c.len-start.result) (drop c.len-start.result c.as_slice.result.now))) c.request-request.ensures.request (c.found_in_text.ensures.none (absent_key c.found_in_text.result c.if-is_none.ensures))) in
     let own : IsPortableInOwn c.args.self.now.request bound.0 = subst (λ (v : TableQuery). IsPortableInOwn v.request bound.0) c.self.view_is found in (
@@ -34,5 +34,5 @@ returns-then-is_none-clause-bound c = λ done.
         assigned = bound.1 assignments are;
         portable_text = portable_in_each c.args.self.now.request c.args.self.now.query assignments bound.0 (bound.1 assignments are) own;
       },
-      bound.2,
+      bound.3,
     )

@@ -34,7 +34,7 @@ returns-in-Steady-clause-bound c =
     let t = c.self.inside in
     done_bound c.attempt_of-in-Steady.result c.append_surveyed-in-Steady.result _ _ c.attempt_of-in-Steady.ensures.done c.append_surveyed-in-Steady.ensures.appended
     (λ appended.
-    let a = steady_appended t.request t.parsed.query (placed_values c.args.values) c.args.script.now.items c.append_surveyed-in-Steady.new.text.items t.parsed.mode c.in-Steady.is c.self.invariant.mode c.self.invariant.taken
+    let a = steady_appended t.request t.parsed.query (placed_values c.args.values) c.args.script.now.items c.append_surveyed-in-Steady.new.text.items t.parsed.mode c.in-Steady.is c.self.invariant.mode
     (appended_as _ _ _ _ _ _ _ _ _ c.surveyed-surveyed.ensures.reading c.surveyed-surveyed.ensures.query appended) in (
       a.0,
       a.1,

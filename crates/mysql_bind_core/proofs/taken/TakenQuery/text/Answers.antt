@@ -1,26 +1,35 @@
-use Rattle.std.proofs.Common.{sym, subst, ◌∙◌}
+use Rattle.std.proofs.Common.{ℕ, List, sym, subst, ap, ◌∙◌}
 use Rattle.mysql_binding.proofs.AppendedTextLemmas.{handed_on}
-use Rattle.mysql_bind_core.specs.Refusals.{IsFragmentsTextRefusal, IsRefusal, of_fragments, of_values}
+use Rattle.mysql_named_params.specs.Reading.{wide_reading}
+use Rattle.mysql_bind_core.specs.Bound.{IsAssignedText, IsTaken}
+use Rattle.mysql_bind_core.specs.Refusals.{IsRefusal}
 use Rattle.mysql_bind_core.specs.TakenQuery.{RequestedQuery}
-use Rattle.mysql_bind_core.proofs.TakenQueryLemmas.{taken_seen}
 use Rattle.mysql_bind_core.proofs.taken.TakenQuery.text.Goals as goal
+
+pub fragments_text-requires-clause-reading : goal.fragments_text-requires-clause-reading
+fragments_text-requires-clause-reading c = c.surveyed.ensures.reading ∙ ap wide_reading c.self.invariant.mode
+
+pub fragments_text-requires-clause-taken : goal.fragments_text-requires-clause-taken
+fragments_text-requires-clause-taken c = subst (IsTaken c.self.inside.request) (sym c.surveyed.ensures.query) c.self.invariant.taken
 
 pub returns-in_err-text-clause-refused : goal.returns-in_err-text-clause-refused
 returns-in_err-text-clause-refused c =
     let q = c.args.self.now in
-    let assignments = c.args.assignments.now in
-    let why = c.in_err-text.field-0.0 in
-    let taken = taken_seen c.self.inside.request c.self.inside.parsed q c.self.invariant c.self.view_is in
-    let of = subst (λ (w : RequestedQuery). IsFragmentsTextRefusal w.request w.query assignments why) c.self.view_is
-    (rw c.query.ensures at c.in_err-text.ensures.refused) in
-    handed_on (IsRefusal q.request q.query assignments) c.from_residual.result why c.from_residual.ensures.1
-    (of_fragments taken (sym c.has_fragment.ensures ∙ c.if-has_fragment.true) of)
+    handed_on (IsRefusal q.request q.query c.args.assignments.now) c.from_residual.result c.in_err-text.field-0.0 c.from_residual.ensures.1
+    c.in_err-text.ensures.refused
 
 pub returns-in_err-text-2-clause-refused : goal.returns-in_err-text-2-clause-refused
 returns-in_err-text-2-clause-refused c =
     let q = c.args.self.now in
     let assignments = c.args.assignments.now in
     let why = c.in_err-text-2.field-0.0 in
-    let taken = taken_seen c.self.inside.request c.self.inside.parsed q c.self.invariant c.self.view_is in
     handed_on (IsRefusal q.request q.query assignments) c.from_residual-in_err-text-2.result why c.from_residual-in_err-text-2.ensures.1
-    (of_values taken (sym c.has_fragment.ensures ∙ c.if-has_fragment.false) c.in_err-text-2.ensures.refused)
+    (subst (λ (w : RequestedQuery). IsRefusal w.request w.query assignments why) c.self.view_is
+    (subst (λ (query : List ℕ). IsRefusal c.self.inside.request query assignments why) c.surveyed.ensures.query c.in_err-text-2.ensures.refused))
+
+pub asked_text-requires : goal.asked_text-requires
+asked_text-requires c =
+    let assignments = c.args.assignments.now in
+    let text = c.in_ok-text-2.text.items in
+    subst (λ (w : RequestedQuery). IsAssignedText w.request w.query assignments text) c.self.view_is
+    (subst (λ (query : List ℕ). IsAssignedText c.self.inside.request query assignments text) c.surveyed.ensures.query c.in_ok-text-2.ensures.bound)
