@@ -63,9 +63,7 @@ pub fn bind_fragments_anywhere_into(
     bind_form_anywhere(alloc, query, form, GRAMMAR, room)
 }
 
-/// [`bind_fragments_anywhere_into`] by wide names: it binds as
-/// [`bind_wide_fragments_anywhere`](mysql_fragments::bind_wide_fragments_anywhere) does. Everything
-/// else is the same.
+/// [`bind_fragments_anywhere_into`] by wide names. Everything else is the same.
 pub fn bind_wide_fragments_anywhere_into(
     alloc: Global,
     query: &[u8],

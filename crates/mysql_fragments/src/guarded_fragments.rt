@@ -29,7 +29,7 @@ use std::alloc::Global;
 /// the query of [`expanded_wide_query_in`](crate::expanded_wide_query_in) and its values. Mode and
 /// character set decide only what a text says, as there.
 ///
-/// It refuses as [`bind_wide_fragments_anywhere`](crate::bind_wide_fragments_anywhere).
+/// It refuses as `bind_fragments_anywhere` in `mysql_bind_call` does, but reads wide names.
 pub fn bind_wide_fragments_guarded(
     alloc: Global,
     query: &[u8],

@@ -36,7 +36,6 @@ mod steady_fragments_error;
 mod unsteady;
 mod value_form;
 mod wide;
-mod wide_steady;
 mod written;
 
 pub use bound_refs::{bind_borrowed_fragments, bind_borrowed_fragments_into};
@@ -56,7 +55,5 @@ pub use steady_fragments::bind_steady_fragments;
 pub use steady_fragments_error::SteadyFragmentsError;
 pub use unsteady::{first_unsteady_fragment, first_unsteady_place};
 pub use wide::{
-    bind_wide_borrowed_fragments, bind_wide_borrowed_fragments_into, bind_wide_fragments_in,
-    expanded_wide_query_in,
+    bind_wide_borrowed_fragments, bind_wide_borrowed_fragments_into, expanded_wide_query_in,
 };
-pub use wide_steady::{bind_wide_fragments_anywhere, bind_wide_fragments_in_any_mode};

@@ -12,42 +12,13 @@ ghost use Rattle.mysql_fragments.specs.GivenFragments.{given_fragments, position
 ghost use Rattle.mysql_fragments.specs.declared.fragment.Fragment as said_fragment;
 
 use crate::bound_refs::{bind_borrowed_in, bind_borrowed_into_in};
-use crate::expanded::{ExpandedQuery, bound_fragments, expanded};
+use crate::expanded::{ExpandedQuery, expanded};
 use crate::fragment::Fragments;
 use crate::fragment_ref::FragmentRef;
 use crate::fragments_error::FragmentsError;
 use mysql_binding::TextInRoom;
 use mysql_named_params::places::Reading;
 use std::alloc::Global;
-
-/// `bind_fragments_in` by wide names: `:userIds` and `:ID` are names too. Names that differ only in
-/// case are different names. The entries of [`Fragments::Named`] have these names. For the crates
-/// above.
-///
-/// It refuses for the same causes in the same order, over these names. So `x::Text` and `lbl:LOOP`
-/// are refused as places that don't stand alone. For a query whose names have no capitals the
-/// result is the same as there.
-pub fn bind_wide_fragments_in(
-    alloc: Global,
-    query: &[u8],
-    fragments: &Fragments,
-    no_backslash_escape: bool,
-) -> Result<Vec<u8>, FragmentsError>
-    ensures bound { OnWideTokens no_backslash_escape query.now (λ ts. IfOk result (λ text.
-        IsBoundFragments no_backslash_escape ts (given_fragments fragments.now) text.items)) }
-    ensures refused { OnWideTokens no_backslash_escape query.now (λ ts. IfErr result
-        (IsCauseOrMemory (first_cause true ts (given_fragments fragments.now)))) }
-
-    // A query with a name and a mark is refused without allocating.
-    ensures mixed { OnWideTokens no_backslash_escape query.now (λ ts.
-        HasName ts × HasMark ts → IsErrOf result FragmentsError.Mixed) }
-{
-    let reading = Reading {
-        no_backslash_escape,
-        wide_names: true,
-    };
-    bound_fragments(alloc, query, fragments, reading)
-}
 
 /// [`expanded_query_in`](crate::expanded_query_in) by wide names.
 pub fn expanded_wide_query_in(
